@@ -1,0 +1,12 @@
+pub mod Tests
+pub mod Members
+pub mod Ranges
+pub mod Counts
+pub mod Sorted
+pub mod Once
+pub mod Stretches
+pub mod Sums
+pub mod Repeats
+pub mod Fill
+pub mod Find
+pub mod Grid

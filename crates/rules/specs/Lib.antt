@@ -1,0 +1,11 @@
+pub mod Ground
+pub mod Land
+pub mod Chain
+pub mod FirstWays
+pub mod Passes
+pub mod Carving
+pub mod Network
+pub mod Way
+pub mod Links
+pub mod Trace
+pub mod Samples
