@@ -16,7 +16,7 @@ use Rattle.lists.proofs.Ranges.{keep-append, length-range, mem-upto, upto-mem}
 use Rattle.lists.proofs.Sums.{sum-append, sum-flat, sum-le, sum-same}
 use Rattle.lists.proofs.Tests.{and-both, so-not}
 use Rattle.lists.specs.Lists.{at, keep, sum, upto, _∈_}
-use Rattle.rules.proofs.Orders.{After, after, from, from-step, from-through, giver, giver-solid, Gives, mem-order}
+use Rattle.rules.proofs.Orders.{after, After, from, from-step, from-through, giver, giver-solid, Gives, mem-order}
 use Rattle.rules.proofs.Orders.{once-from, once-order, order-mem, runs-on, through-from}
 use Rattle.rules.specs.FirstWays.{solidCells}
 use Rattle.rules.specs.Land.{Land}

@@ -11,13 +11,13 @@ use lib.Dec.{eqb}
 use borrow.Author.Tests.{eq-eqb, eqb-false, eqb-true}
 use Rattle.lists.proofs.Members.{keep-mem, mem-keep}
 use Rattle.lists.proofs.Repeats.{repeat-fixed}
-use Rattle.lists.proofs.Tests.{and-both, and-left, and-right, is, isnt, Known, known, or-left, or-right}
+use Rattle.lists.proofs.Tests.{and-both, and-left, and-right, is, isnt, known, Known, or-left, or-right}
 use Rattle.lists.specs.Lists.{at, keep, repeat, _∈_}
 use Rattle.rules.proofs.ChosenPasses.{chosen-pass, no-chosen-ring, pass-crossing, to-outlets, tree, within}
 use Rattle.rules.proofs.Crossings.{crosses, Crosses, node-below}
 use Rattle.rules.proofs.FirstReceivers.{Falls, first-falls, rank, rank-cells, rank-falls, singularOf-below}
 use Rattle.rules.proofs.Labels.{Chain→joined, joined→Chain, Within}
-use Rattle.rules.proofs.Trees.{Leads, leads}
+use Rattle.rules.proofs.Trees.{leads, Leads}
 use Rattle.rules.specs.Carving.{allBut, carved, farCell, firstWay, leadsOut, nearCell, outflows, previous, receiver}
 use Rattle.rules.specs.Chain.{Chain, here}
 use Rattle.rules.specs.FirstWays.{firstReceiver, singular, singularOf}

@@ -11,7 +11,7 @@ use borrow.Author.Tests.{eq-eqb, ne-eqb}
 use Rattle.lists.proofs.Repeats.{repeat-last}
 use Rattle.lists.proofs.Tests.{swap}
 use Rattle.lists.specs.Lists.{repeat, _∈_}
-use Rattle.rules.proofs.Carving.{Before, chosen-crosses, Exit, exit, node-inner, off, OnWay, Out, Outflow, outflow}
+use Rattle.rules.proofs.Carving.{Before, chosen-crosses, exit, Exit, node-inner, off, OnWay, Out, outflow, Outflow}
 use Rattle.rules.proofs.Carving.{receives, start, upward}
 use Rattle.rules.proofs.Chains.{turned, _then_}
 use Rattle.rules.proofs.ChosenPasses.{no-chosen-ring, to-outlets, tree}

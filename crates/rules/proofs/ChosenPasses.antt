@@ -11,12 +11,12 @@ use lib.Dec.{eqb, leb, ltb}
 use lib.ListN.{length}
 use borrow.Author.Tests.{eqb-false, eqb-true, le-leb, leb-true, ltb-false, ltb-true, not-false, not-true}
 use Rattle.lists.proofs.Members.{keep-mem, mem-keep}
-use Rattle.lists.proofs.Tests.{is, isnt, Known, known}
+use Rattle.lists.proofs.Tests.{is, isnt, known, Known}
 use Rattle.lists.specs.Lists.{keep, _∈_}
 use Rattle.rules.proofs.Chains.{mono, turned, _then_}
 use Rattle.rules.proofs.CrossingOrder.{by-greater, by-height, by-lesser, compared, Compared, is-equal, is-greater, is-less}
 use Rattle.rules.proofs.CrossingOrder.{Less, less→Less, Less→less}
-use Rattle.rules.proofs.Crossings.{crosses, Crosses, crossing, node-below, node-same, ranked, SameBasins, Under, under-all}
+use Rattle.rules.proofs.Crossings.{Crosses, crosses, crossing, node-below, node-same, ranked, SameBasins, Under, under-all}
 use Rattle.rules.proofs.FirstReceivers.{first-outlet, singularOf-self}
 use Rattle.rules.proofs.Forest.{below, but, but-in, no-ring, replaced, upTo}
 use Rattle.rules.proofs.Labels.{apart→¬Chain, joined→Chain, Within}

@@ -14,7 +14,7 @@ use Rattle.lists.proofs.Counts.{count-lt}
 use Rattle.lists.proofs.Ranges.{upto-mem}
 use Rattle.lists.proofs.Repeats.{repeat-last}
 use Rattle.lists.specs.Lists.{keep, repeat, upto}
-use Rattle.rules.proofs.Carving.{Before, Exit, exit, node-inner, off, OnWay, Out, Outflow, outflow, receives, start}
+use Rattle.rules.proofs.Carving.{Before, exit, Exit, node-inner, off, OnWay, Out, outflow, Outflow, receives, start}
 use Rattle.rules.proofs.Carving.{upward}
 use Rattle.rules.proofs.ChosenPasses.{to-outlets, tree}
 use Rattle.rules.proofs.FirstReceivers.{Falls, first-below, first-falls, first-outlet, rank, rank-falls, repeat-below}

@@ -11,7 +11,7 @@ use borrow.Author.Tests.{eqb-false, eqb-true, lt-ltb, ltb-true, ne-eqb, not-true
 use Rattle.lists.proofs.Counts.{count-lt}
 use Rattle.lists.proofs.Members.{any-mem, flat-mem, keep-mem, map-mem, mem-flat, mem-keep, mem-map}
 use Rattle.lists.proofs.Ranges.{mem-upto, upto-mem}
-use Rattle.lists.proofs.Tests.{and-both, and-left, and-right, is, isnt, Known, known, never, or-cases, so-not}
+use Rattle.lists.proofs.Tests.{and-both, and-left, and-right, is, isnt, known, Known, never, or-cases, so-not}
 use Rattle.lists.specs.Lists.{any, keep, upto, _∈_}
 use Rattle.rules.proofs.CrossingOrder.{compared, Compared, irreflexive, is-equal, is-greater, is-less, less→Less}
 use Rattle.rules.proofs.CrossingOrder.{Less→less, transitive}

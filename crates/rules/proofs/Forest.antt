@@ -11,7 +11,7 @@ use native.Mathlib.Omega.{arith}
 use lib.ListN.{length}
 use Rattle.lists.proofs.Counts.{count-drop, count-lt}
 use Rattle.lists.proofs.Members.{keep-mem, mem-keep}
-use Rattle.lists.proofs.Tests.{is, isnt, Known, known, or-right}
+use Rattle.lists.proofs.Tests.{is, isnt, known, Known, or-right}
 use Rattle.lists.specs.Lists.{keep, _∈_}
 use Rattle.rules.proofs.Chains.{across, bind, by-edge, by-one-edge, mono, OneEdge, over, turned, without, _then_}
 use Rattle.rules.specs.Chain.{back, Chain, Edges, forth}

@@ -8,7 +8,7 @@ use Prim.Native.Nat.{suc, ℕ, _<_}
 use native.Mathlib.Nat.{lt-suc-self}
 use lib.ListN.{length}
 use Rattle.lists.proofs.Members.{keep-mem, mem-keep}
-use Rattle.lists.proofs.Tests.{is, isnt, Known, known, so-not}
+use Rattle.lists.proofs.Tests.{is, isnt, known, Known, so-not}
 use Rattle.lists.specs.Lists.{keep, _∈_}
 use Rattle.rules.proofs.Chains.{by-edge, mono, turned, _then_}
 use Rattle.rules.proofs.ChosenPasses.{apart, lesser-within, pass-crossing, within}

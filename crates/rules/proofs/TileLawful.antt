@@ -1,21 +1,22 @@
 -- A tile with four neighbours is lawful: neighbours are mutual, and where there is an outlet every cell has a way to one.
 -- Assumes nothing.
 use mathlib.Core.Bool.{true, _&&_}
+use mathlib.Core.List.{List, map}
 use mathlib.Core.Logic.{inl, inr, _⊎_}
 use mathlib.Core.Path.{ap, refl, subst, sym, _∙_, _≡_}
-use Prim.Native.Nat.{max, suc, zero, ℕ, _%_, _*_, _+_, _-_, _/_, _<_, _≤_}
+use Prim.Native.Nat.{max, suc, zero, ℕ, _%_, _+_, _-_, _/_, _<_, _≤_}
 use native.Mathlib.Nat.{add-div-right, add-mod-right, div-eq-of-lt, lt-suc-self, lt-trans, mod-eq-of-lt, sub-add-cancel}
 use native.Mathlib.Numerals.{add-one}
 use native.Mathlib.Omega.{arith}
-use lib.Dec.{eqb}
+use lib.Dec.{eqb, leb}
 use borrow.Author.Tests.{eq-eqb, eqb-true, leb-false, leb-true}
-use Rattle.lists.proofs.Tests.{and-both, and-left, and-right, is, isnt, Known, known, or-cases, or-left, or-right, swap}
+use Rattle.lists.proofs.Tests.{and-both, and-left, and-right, is, isnt, known, Known, or-cases, or-left, or-right, swap}
 use Rattle.lists.specs.Lists.{at}
-use Rattle.rules.specs.Ground.{Ground}
-use Rattle.rules.specs.Land.{Land, land4, oneApart, shareSide}
+use Rattle.rules.specs.Ground.{cellsOf, Ground, lifted}
+use Rattle.rules.specs.Land.{Land, land4, oneApart, shareSide, tile4}
 use Rattle.rules.specs.Way.{arrive, Lawful, step, Way}
 
--- what sharing a shareSide is
+-- what sharing a side is
 pub data Side (w a b : ℕ) : Type 0 where
   row : a / w ≡ b / w → (suc (a % w) ≡ b % w) ⊎ (suc (b % w) ≡ a % w) → Side w a b
   column : a % w ≡ b % w → (suc (a / w) ≡ b / w) ⊎ (suc (b / w) ≡ a / w) → Side w a b
@@ -46,7 +47,7 @@ side-sym : (w a b : ℕ) → Side w a b → Side w b a
 side-sym w a b (row e f) = row (sym e) (swap f)
 side-sym w a b (column e f) = column (sym e) (swap f)
 
--- one row up, and one to the left in the firstReceiver row
+-- one row up, and one to the left in the first row
 above : (w d : ℕ) → 0 < w → Side w (d + w) d
 above w d h = column (add-mod-right d w) (inr (sym (add-one (d / w)) ∙ sym (add-div-right d h)))
 
@@ -72,32 +73,38 @@ module _ (L : Land) where
   link-way {a} h o (stay e) = (L .height a, arrive h (ap (L .outlet) e ∙ o))
   link-way {a} h o (hop g k t m) = let w = link-way k o m in (max (L .height a) (w .0), step h t (w .1))
 
--- every cell is linked to cell 0
-to-zero : (g : Ground) → 0 < g .width → (n c : ℕ) → c < n → c < g .height * g .width → Link (land4 g) c 0
-to-zero g w zero c h k = absurd (omega arith)
-to-zero g w (suc n) zero h k = stay refl
-to-zero g w (suc n) (suc c) h k = go (known (lib.Dec.leb (g .width) (suc c))) (to-zero g w n)
-  where
-    W : ℕ
-    W = g .width
+-- on a tile w wide with n cells every cell is linked to cell 0: up its column, then along the first row
+module _ (w n : ℕ) (heights marks : List ℕ) where
+  to-zero : 0 < w → (k c : ℕ) → c < k → c < n → Link (tile4 w n heights marks) c 0
+  to-zero p zero c h l = absurd (omega arith)
+  to-zero p (suc k) zero h l = stay refl
+  to-zero p (suc k) (suc c) h l = go (known (leb w (suc c))) (to-zero p k)
+    where
+      go : Known (leb w (suc c)) → ((d : ℕ) → d < k → d < n → Link (tile4 w n heights marks) d 0) → Link (tile4 w n heights marks) (suc c) 0
+      go (is t) ih =
+          let q : w ≤ suc c = leb-true _ _ t in
+          let d : ℕ = suc c - w in
+          let e : d + w ≡ suc c = sub-add-cancel q in
+          let m : d < suc c = omega arith in
+          hop l (lt-trans m l) (→side w (suc c) d (subst (λ (a : ℕ). Side w a d) e (above w d p))) (ih d (omega arith) (lt-trans m l))
+      go (isnt t) ih =
+          let q : suc c < w = leb-false _ _ t in
+          let m : c < n = lt-trans (lt-suc-self c) l in
+          hop l m (→side w (suc c) c (left w c q)) (ih c (omega arith) m)
 
-    go : Known (lib.Dec.leb W (suc c)) → ((d : ℕ) → d < n → d < g .height * g .width → Link (land4 g) d 0) → Link (land4 g) (suc c) 0
-    go (is t) ih =
-        let q : W ≤ suc c = leb-true _ _ t in
-        let d : ℕ = suc c - W in
-        let e : d + W ≡ suc c = sub-add-cancel q in
-        let l : d < suc c = omega arith in
-        hop k (lt-trans l k) (→side W (suc c) d (subst (λ (a : ℕ). Side W a d) e (above W d w))) (ih d (omega arith) (lt-trans l k))
-    go (isnt t) ih =
-        let q : suc c < W = leb-false _ _ t in
-        let l : c < g .height * g .width = lt-trans (lt-suc-self c) k in
-        hop k l (→side W (suc c) c (left W c q)) (ih c (omega arith) l)
+  sides-mutual : (a b : ℕ) → shareSide w a b ≡ true → shareSide w b a ≡ true
+  sides-mutual a b t = →side w b a (side-sym w a b (side→ w a b t))
 
-pub land4-lawful : (g : Ground) → 0 < g .width → (o : ℕ) → o < g .height * g .width → at (g .marks) o ≡ 1 → Lawful (land4 g)
-land4-lawful g w o h m =
-    record {
-      mutual-neighbours = λ a b t. →side (g .width) b a (side-sym (g .width) a b (side→ (g .width) a b t));
-      neighbour-solid = λ a b t. refl;
-      outlet-solid = λ c t. refl;
-      some-way = λ c k s. link-way (land4 g) k (eq-eqb _ _ m) (link-then (land4 g) (to-zero g w (suc c) c (omega arith) k) (link-back (land4 g) (λ a b t. →side (g .width) b a (side-sym (g .width) a b (side→ (g .width) a b t))) (to-zero g w (suc o) o (omega arith) h)));
-    }
+  -- so a tile with an outlet is lawful
+  pub tile4-lawful : 0 < w → (o : ℕ) → o < n → at marks o ≡ 1 → Lawful (tile4 w n heights marks)
+  tile4-lawful p o h m =
+      let L : Land = tile4 w n heights marks in
+      record {
+        mutual-neighbours = sides-mutual;
+        neighbour-solid = λ a b t. refl;
+        outlet-solid = λ c t. refl;
+        some-way = λ c k s. link-way L k (eq-eqb _ _ m) (link-then L (to-zero p (suc c) c (omega arith) k) (link-back L sides-mutual (to-zero p (suc o) o (omega arith) h)));
+      }
+
+pub land4-lawful : (g : Ground) → 0 < g .width → (o : ℕ) → o < cellsOf g → at (g .marks) o ≡ 1 → Lawful (land4 g)
+land4-lawful g w o h m = tile4-lawful (g .width) (cellsOf g) (map lifted (g .heights)) (g .marks) w o h m

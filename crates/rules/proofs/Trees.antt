@@ -8,7 +8,7 @@ use Prim.Native.Nat.{suc, zero, ℕ}
 use lib.Dec.{eqb}
 use borrow.Author.Tests.{eq-eqb, eqb-true}
 use Rattle.lists.proofs.Members.{keep-mem, mem-keep}
-use Rattle.lists.proofs.Tests.{is, isnt, Known, known}
+use Rattle.lists.proofs.Tests.{is, isnt, known, Known}
 use Rattle.lists.specs.Lists.{keep, _∈_}
 use Rattle.rules.proofs.Chains.{across, by-one-edge, Joins, mono, OneEdge, over, turned, without, _then_}
 use Rattle.rules.proofs.Forest.{but, but-in, in-but, no-ring, Ranked}

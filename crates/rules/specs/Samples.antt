@@ -11,7 +11,7 @@ use Rattle.rules.specs.Chain.{join, joined, labels}
 use Rattle.rules.specs.FirstWays.{basin, firstReceiver, lowerNeighbours, neighbours, singular, singularOf, solidCells}
 use Rattle.rules.specs.FirstWays.{steepestOf}
 use Rattle.rules.specs.Ground.{Ground}
-use Rattle.rules.specs.Network.{above, drainage, givers, level, levelWithin, Network, network, networkOf, order, outlets}
+use Rattle.rules.specs.Network.{above, drainage, givers, level, levelWithin, network, Network, networkOf, order, outlets}
 use Rattle.rules.specs.Network.{through, wet}
 use Rattle.rules.specs.Passes.{chosen, crossingHeight, crossings, crossingsAt, divides, less, lessThan, linked, node}
 use Rattle.rules.specs.Passes.{passes, sameBasins}
