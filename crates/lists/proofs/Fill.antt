@@ -12,13 +12,15 @@ use Rattle.lists.proofs.Ranges.{length-range}
 use Rattle.lists.specs.Lists.{filled, range, tab}
 
 module _ {A : Type 0} where
-  set-next : (p old : List A) (v : A) → length p < length old → set (p ++ drop (length p) old) (length p) v ≡ (p ++ (v ∷ [])) ++ drop (suc (length p)) old
+  set-next : (p old : List A) (v : A) → length p < length old
+      → set (p ++ drop (length p) old) (length p) v ≡ (p ++ (v ∷ [])) ++ drop (suc (length p)) old
   set-next p old v h =
       let d : A = v in
       rw (drop-cons old (length p) d, set-append-seam, append-snoc)
 
   -- a turn
-  pub put-next : (p old : List A) (n : ℕ) (v : A) → length p ≡ n → n < length old → set (p ++ drop n old) n v ≡ (p ++ (v ∷ [])) ++ drop (n + 1) old
+  pub put-next : (p old : List A) (n : ℕ) (v : A) → length p ≡ n → n < length old
+      → set (p ++ drop n old) n v ≡ (p ++ (v ∷ [])) ++ drop (n + 1) old
   put-next p old n v e h =
       rw add-one (subst (λ (k : ℕ). set (p ++ drop k old) k v ≡ (p ++ (v ∷ [])) ++ drop (suc k) old) e (set-next p old v (rw e h)))
 
@@ -39,7 +41,8 @@ module _ {A : Type 0} where
   pub length-tab : (f : ℕ → A) (n : ℕ) → length (tab n f) ≡ n
   length-tab f n = simp length-map (length-range n 0)
 
-  pub tab-next : (f : ℕ → A) (old : List A) (n : ℕ) → n < length old → set (tab n f ++ drop n old) n (f n) ≡ tab (n + 1) f ++ drop (n + 1) old
+  pub tab-next : (f : ℕ → A) (old : List A) (n : ℕ) → n < length old
+      → set (tab n f ++ drop n old) n (f n) ≡ tab (n + 1) f ++ drop (n + 1) old
   tab-next f old n h = put-next (tab n f) old n (f n) (length-tab f n) h ∙ rw (add-one, ← tab-suc f n)
 
   getD-map-range : (f : ℕ → A) (n k i : ℕ) (d : A) → i < n → getD (map f (range k n)) i d ≡ f (k + i)

@@ -10,3 +10,5 @@ pub mod Repeats
 pub mod Fill
 pub mod Find
 pub mod Grid
+pub mod Lent
+pub mod Tables

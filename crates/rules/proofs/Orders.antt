@@ -42,7 +42,8 @@ module _ (L : Land) (r : List ℕ) where
   shorter {c} {j} w =
       let g = goal-of w in
       let a : j ≤ length (keep (λ d. L .solid d && not (L .outlet d)) (upto (L .cells))) = few-steps L (at r) w in
-      let b : length (keep (λ d. L .solid d && not (L .outlet d)) (upto (L .cells))) < length (upto (L .cells)) = count-drop (λ d. L .solid d && not (L .outlet d)) (upto-mem (g .1)) (off (L .solid (g .0)) (L .outlet (g .0)) (g .2)) in
+      let b : length (keep (λ d. L .solid d && not (L .outlet d)) (upto (L .cells))) < length (upto (L .cells)) =
+      count-drop (λ d. L .solid d && not (L .outlet d)) (upto-mem (g .1)) (off (L .solid (g .0)) (L .outlet (g .0)) (g .2)) in
       let e : length (upto (L .cells)) ≡ L .cells = length-range (L .cells) 0 in
       omega arith
     where
@@ -76,7 +77,8 @@ module _ (L : Land) (r : List ℕ) where
         go false e = absurd (let k : L .cells ≤ at r d = D .holes d (g .on) e in let q = g .to in omega arith)
 
     pub giver-runs : {c j : ℕ} (d : ℕ) → Runs L (at r) c j → Gives d c → Runs L (at r) d (suc j)
-    giver-runs {c} {j} d w g = more (g .on) (giver-solid c d (runs-on w) g) (g .inner) (subst (λ (z : ℕ). Runs L (at r) z j) (sym (g .to)) w)
+    giver-runs {c} {j} d w g =
+        more (g .on) (giver-solid c d (runs-on w) g) (g .inner) (subst (λ (z : ℕ). Runs L (at r) z j) (sym (g .to)) w)
 
     -- fuel: what a cell j steps from its outlet needs is cells - j
     pub fuel : {c j : ℕ} (k i : ℕ) → Runs L (at r) c j → L .cells ≤ k + j → L .cells ≤ i + j → above L r k c ≡ above L r i c
@@ -84,7 +86,9 @@ module _ (L : Land) (r : List ℕ) where
     fuel zero zero w h l = refl
     fuel zero (suc i) w h l = absurd (let s = shorter w in omega arith)
     fuel (suc k) zero w h l = absurd (let s = shorter w in omega arith)
-    fuel {c} {j} (suc k) (suc i) w h l = ap (λ (z : List ℕ). c ∷ z) (flat-same (above L r k) (above L r i) (givers L r c) (λ d m. fuel k i (giver-runs d w (giver c d m)) (omega arith) (omega arith)))
+    fuel {c} {j} (suc k) (suc i) w h l =
+        ap (λ (z : List ℕ). c ∷ z)
+        (flat-same (above L r k) (above L r i) (givers L r c) (λ d m. fuel k i (giver-runs d w (giver c d m)) (omega arith) (omega arith)))
 
     -- rule 8, one step
     pub from-step : {c j : ℕ} → Runs L (at r) c j → from c ≡ c ∷ flat from (givers L r c)
@@ -93,7 +97,9 @@ module _ (L : Land) (r : List ℕ) where
       where
         go : (n : ℕ) → L .cells ≡ n → above L r n c ≡ c ∷ flat (above L r (L .cells)) (givers L r c)
         go zero e = absurd (let s = shorter w in omega arith)
-        go (suc n) e = ap (λ (z : List ℕ). c ∷ z) (flat-same (above L r n) (above L r (L .cells)) (givers L r c) (λ d m. fuel n (L .cells) (giver-runs d w (giver c d m)) (omega arith) (omega arith)))
+        go (suc n) e =
+            ap (λ (z : List ℕ). c ∷ z)
+            (flat-same (above L r n) (above L r (L .cells)) (givers L r c) (λ d m. fuel n (L .cells) (giver-runs d w (giver c d m)) (omega arith) (omega arith)))
 
     pub outlet-of : (c : ℕ) → c ∈ outlets L → Runs L (at r) c 0
     unfolding outlets
@@ -105,8 +111,10 @@ module _ (L : Land) (r : List ℕ) where
       via-step : {x i : ℕ} → x < L .cells → L .solid x ≡ true → L .outlet x ≡ false → Via c (at r x) i → Via c x (suc i)
 
     pub via-runs : {c x i j : ℕ} → Via c x i → Runs L (at r) c j → Runs L (at r) x (i + j)
-    via-runs {c} {x} {i} {j} (via-here e) w = subst (λ (n : ℕ). Runs L (at r) x n) (sym (zero-add j)) (subst (λ (z : ℕ). Runs L (at r) z j) (sym e) w)
-    via-runs {c} {x} {i} {j} (via-step {i = k} h s o v) w = subst (λ (n : ℕ). Runs L (at r) x n) (sym (suc-add k j)) (more h s o (via-runs v w))
+    via-runs {c} {x} {i} {j} (via-here e) w =
+        subst (λ (n : ℕ). Runs L (at r) x n) (sym (zero-add j)) (subst (λ (z : ℕ). Runs L (at r) z j) (sym e) w)
+    via-runs {c} {x} {i} {j} (via-step {i = k} h s o v) w =
+        subst (λ (n : ℕ). Runs L (at r) x n) (sym (suc-add k j)) (more h s o (via-runs v w))
 
     via-one : {c d x i : ℕ} → Via c x i → Via d x i → c ≡ d
     via-one (via-here e) (via-here f) = sym e ∙ f
@@ -120,7 +128,8 @@ module _ (L : Land) (r : List ℕ) where
         via-one (subst (Via c x) f v) w
 
     via-snoc : {c d x i : ℕ} → Via d x i → d < L .cells → L .solid d ≡ true → L .outlet d ≡ false → at r d ≡ c → Via c x (suc i)
-    via-snoc {c} {d} {x} (via-here e) h s o t = via-step (subst (λ (z : ℕ). z < L .cells) (sym e) h) (ap (L .solid) e ∙ s) (ap (L .outlet) e ∙ o) (via-here (ap (at r) e ∙ t))
+    via-snoc {c} {d} {x} (via-here e) h s o t =
+        via-step (subst (λ (z : ℕ). z < L .cells) (sym e) h) (ap (L .solid) e ∙ s) (ap (L .outlet) e ∙ o) (via-here (ap (at r) e ∙ t))
     via-snoc (via-step k u p v) h s o t = via-step k u p (via-snoc v h s o t)
 
     record Last (c x i : ℕ) : Type 0 where
@@ -129,8 +138,10 @@ module _ (L : Land) (r : List ℕ) where
       pub gives : Gives d c
 
     via-last : {c x : ℕ} (i : ℕ) → Via c x (suc i) → Last c x i
-    via-last {c} {x} zero (via-step h s o (via-here e)) = record { d = x; via = via-here refl; gives = record { on = h; inner = o; to = e } }
-    via-last {c} {x} (suc i) (via-step h s o v) = let l : Last c (at r x) i = via-last i v in record { d = l .d; via = via-step h s o (l .via); gives = l .gives }
+    via-last {c} {x} zero (via-step h s o (via-here e)) =
+        record { d = x; via = via-here refl; gives = record { on = h; inner = o; to = e } }
+    via-last {c} {x} (suc i) (via-step h s o v) =
+        let l : Last c (at r x) i = via-last i v in record { d = l .d; via = via-step h s o (l .via); gives = l .gives }
 
     -- what lies above c: the cells that meet it
     pub above-via : {c j : ℕ} (k : ℕ) → Runs L (at r) c j → (x : ℕ) → x ∈ above L r k c → (i : ℕ) × Via c x i
@@ -138,7 +149,8 @@ module _ (L : Land) (r : List ℕ) where
     above-via zero w x m = absurd (in-none m)
     above-via {c} {j} (suc k) w x m = go (in-cases m) (λ d g. above-via k (giver-runs d w g) x)
       where
-        go : (x ≡ c) ⊎ (x ∈ flat (above L r k) (givers L r c)) → ((d : ℕ) → Gives d c → x ∈ above L r k d → (i : ℕ) × Via d x i) → (i : ℕ) × Via c x i
+        go : (x ≡ c) ⊎ (x ∈ flat (above L r k) (givers L r c)) → ((d : ℕ) → Gives d c → x ∈ above L r k d → (i : ℕ) × Via d x i)
+            → (i : ℕ) × Via c x i
         go (inl e) ih = (0, via-here e)
         go (inr n) ih =
             let f = mem-flat (above L r k) (givers L r c) n in
@@ -156,7 +168,9 @@ module _ (L : Land) (r : List ℕ) where
     once-above : {c j : ℕ} (k : ℕ) → Runs L (at r) c j → Once (above L r k c)
     unfolding above givers
     once-above zero w = once-none
-    once-above {c} {j} (suc k) w = once-next fresh (once-flat (above L r k) (givers L r c) (once-keep _ (upto (L .cells)) (once-range (L .cells) 0)) (λ d m. once-above k (giver-runs d w (giver c d m))) apart)
+    once-above {c} {j} (suc k) w =
+        once-next fresh
+        (once-flat (above L r k) (givers L r c) (once-keep _ (upto (L .cells)) (once-range (L .cells) 0)) (λ d m. once-above k (giver-runs d w (giver c d m))) apart)
       where
         fresh : c ∈ flat (above L r k) (givers L r c) → ⊥
         fresh m =
@@ -213,13 +227,17 @@ module _ (L : Land) (r : List ℕ) where
         (λ c m. let k = order-mem c m in keep-mem (L .solid) (upto-mem (k .0)) (k .1))
         (λ c m. let k = mem-keep (L .solid) (upto (L .cells)) m in mem-order c (mem-upto (k .0)) (k .1))
 
-    -- what drains through c is a run of the order, and c stands firstReceiver in it
+    -- what drains through c is a run of the order, and c stands first in it
     pub run-of : {c j : ℕ} → Runs L (at r) c j → Run (from c) (order L r)
     unfolding order from outlets
     run-of (done {c = a} h o) = flat-run (above L r (L .cells)) (keep-mem (L .outlet) (upto-mem h) o)
     run-of (more {c = a} h s o w) =
         run-in (flat-run from (giver-mem (at r a) a (record { on = h; inner = o; to = refl })))
-        (run-in (subst (Run (flat from (givers L r (at r a)))) (sym (from-step w)) (run-cons (at r a) (record { front = []; rest = []; is = nil-end (flat from (givers L r (at r a))) }))) (run-of w))
+        (run-in (subst (Run (flat from (givers L r (at r a)))) (sym (from-step w)) (run-cons (at r a) (record {
+          front = [];
+          rest = [];
+          is = nil-end (flat from (givers L r (at r a)));
+        }))) (run-of w))
       where
         nil-end : (l : List ℕ) → l ≡ l ++ []
         nil-end [] = refl
@@ -246,7 +264,11 @@ module _ (L : Land) (r : List ℕ) where
               front = a .front;
               mid = b .front;
               rest = flat from (givers L r c) ++ (b .rest ++ a .rest);
-              is = a .is ∙ ap (λ (z : List ℕ). a .front ++ (z ++ a .rest)) (from-step w ∙ ap (λ (z : List ℕ). at r c ∷ z) (b .is ∙ ap (λ (z : List ℕ). b .front ++ (z ++ b .rest)) e)) ∙ simp append-assoc;
+              is =
+                  a .is
+                  ∙ ap (λ (z : List ℕ). a .front ++ (z ++ a .rest))
+                  (from-step w ∙ ap (λ (z : List ℕ). at r c ∷ z) (b .is ∙ ap (λ (z : List ℕ). b .front ++ (z ++ b .rest)) e))
+                  ∙ simp append-assoc;
             }
 
     -- rule 9's test
@@ -255,7 +277,8 @@ module _ (L : Land) (r : List ℕ) where
     through-via zero x c w t = (0, via-here (eqb-true _ _ t))
     through-via (suc k) x c w t = go w (eqb x c) refl t (λ i z. through-via k (at r x) c {j = i} z)
       where
-        go : {j : ℕ} → Runs L (at r) x j → (b : Bool) → eqb x c ≡ b → b || (not (L .outlet x) && through L r k (at r x) c) ≡ true → ((i : ℕ) → Runs L (at r) (at r x) i → through L r k (at r x) c ≡ true → (i : ℕ) × Via c (at r x) i) → (i : ℕ) × Via c x i
+        go : {j : ℕ} → Runs L (at r) x j → (b : Bool) → eqb x c ≡ b → b || (not (L .outlet x) && through L r k (at r x) c) ≡ true
+            → ((i : ℕ) → Runs L (at r) (at r x) i → through L r k (at r x) c ≡ true → (i : ℕ) × Via c (at r x) i) → (i : ℕ) × Via c x i
         go w true e t ih = (0, via-here (eqb-true _ _ e))
         go (done h o) false e t ih = absurd (false≢true (sym (off o) ∙ t))
           where
@@ -298,4 +321,6 @@ module _ (L : Land) (r : List ℕ) where
     -- so its length is how many drain through c (W-213)
     pub from-length : {c j : ℕ} → Runs L (at r) c j → length (from c) ≡ length (keep (λ d. through L r (L .cells) d c) (solidCells L))
     unfolding solidCells
-    from-length {c} {j} w = once-same (from c) _ (once-from w) (once-keep _ (solidCells L) (once-keep _ (upto (L .cells)) (once-range (L .cells) 0))) (from-through w) (through-from w)
+    from-length {c} {j} w =
+        once-same (from c) _ (once-from w) (once-keep _ (solidCells L) (once-keep _ (upto (L .cells)) (once-range (L .cells) 0)))
+        (from-through w) (through-from w)

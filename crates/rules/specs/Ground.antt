@@ -2,9 +2,11 @@
 -- Assumes nothing.
 use mathlib.Core.Bool.{Bool, cond}
 use mathlib.Core.List.{List}
-use Prim.Native.Nat.{ℕ, _*_, _+_, _-_}
+use mathlib.Core.Path.{_≡_}
+use Prim.Native.Nat.{ℕ, _*_, _+_, _-_, _<_}
 use lib.Dec.{leb, ltb}
 use lib.IntN.{negsuc, pos, ℤ}
+use Rattle.lists.specs.Lists.{at}
 
 -- a height is a whole number of 1/256 metre, -8,000,000 to 8,000,000, ends included; negsuc n is -(n + 1)
 abbrev pub heightInRange : ℤ → Bool
@@ -31,3 +33,10 @@ pub record Ground : Type 0 where
 -- N, the number of cells
 abbrev pub cellsOf : Ground → ℕ
 cellsOf g = g .height * g .width
+
+-- a ground that drains: it has some width, and an outlet on it
+pub record HasOutlet (g : Ground) : Type 0 where
+  pub wide : 0 < g .width
+  pub outlet : ℕ
+  pub on : outlet < cellsOf g
+  pub marked : at (g .marks) outlet ≡ 1
