@@ -20,7 +20,6 @@ use Rattle.lists.specs.Lists.{tab}
 use Rattle.little.proofs.Numbers.{numberAt-below}
 use Rattle.little.proofs.Sections.{length-sectionOf, numbersAt-sectionOf, section-next, sectionFilled, sectionOf-numbersAt}
 use Rattle.little.specs.Little.{bytesOf, numberAt, numbersAt, sectionOf}
-use Rattle.rules.proofs.Orders.{from}
 use Rattle.rules.specs.Ground.{heightInRange}
 
 -- a turn of the loop that fills a section of heights

@@ -6,7 +6,6 @@ use Prim.Native.Nat.{suc, ℕ, _%_, _+_, _-_}
 use lib.Dec.{ltb}
 use lib.IntN.{negsuc, pos, ℤ}
 use Rattle.little.specs.Little.{numbersAt, sectionOf}
-use Rattle.rules.proofs.Orders.{from}
 
 -- the 32 bits of a signed number, as a number with no sign; negsuc n is -(n + 1)
 abbrev pub bitsOf : ℤ → ℕ

@@ -12,3 +12,7 @@ pub mod Find
 pub mod Grid
 pub mod Lent
 pub mod Tables
+pub mod Entries
+pub mod GridSides
+pub mod Sorting
+pub mod Crossings

@@ -35,7 +35,7 @@ abbrev pub cellsOf : Ground → ℕ
 cellsOf g = g .height * g .width
 
 -- a ground that drains: it has some width, and an outlet on it
-pub record HasOutlet (g : Ground) : Type 0 where
+pub record Drainable (g : Ground) : Type 0 where
   pub wide : 0 < g .width
   pub outlet : ℕ
   pub on : outlet < cellsOf g

@@ -11,7 +11,6 @@ use mir.Val.{SFits}
 use borrow.Author.Needs.{needs}
 use Rattle.heights.proofs.HeightSections.{heightsAt-next}
 use Rattle.heights.specs.Bits.{heightsAt}
-use Rattle.rules.proofs.Orders.{from}
 use Rattle.heights.proofs.read_section_heights.Statement.{statement}
 use Rattle.heights.proofs.read_section_heights.Tie as tie
 

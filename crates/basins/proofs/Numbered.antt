@@ -1,0 +1,89 @@
+-- Basin numbers: the singular cells below a cell are counted, and each cell takes the count at its singular cell.
+-- Assumes nothing.
+use mathlib.Core.Bool.{Bool, cond, false, true, _&&_}
+use mathlib.Core.List.{[], List, _∷_}
+use mathlib.Core.Path.{ap, refl, subst, sym, _∙_, _≡_}
+use Prim.Native.Nat.{ℕ, _+_, _<_, _≤_}
+use native.Mathlib.Nat.{lt-trans, zero-add}
+use native.Mathlib.Omega.{arith}
+use lib.Dec.{eqb}
+use lib.ListN.{length, length-append}
+use Rattle.basins.specs.Jumps.{FirstReceivers, oneIf, singularBelow, Within}
+use Rattle.lists.proofs.Entries.{filled-again, filled-at, filled-same}
+use Rattle.lists.proofs.Fill.{filled-length}
+use Rattle.lists.proofs.Ranges.{keep-append, keep-same, mem-upto, range-split}
+use Rattle.lists.specs.Lists.{at, filled, keep, range, upto, _∈_}
+use Rattle.rules.proofs.FirstReceivers.{singularOf-below}
+use Rattle.rules.specs.Carving.{receivers}
+use Rattle.rules.specs.FirstWays.{basin, firstReceiver, singular, singularOf}
+use Rattle.rules.specs.Land.{Land}
+use Rattle.tiles.specs.Tile.{Tile, tileLand}
+
+pub one-or-none : (b : Bool) → oneIf b ≤ 1
+one-or-none true = omega arith
+one-or-none false = omega arith
+
+pub below-none : (receivers : List ℕ) → singularBelow receivers 0 ≡ 0
+unfolding singularBelow
+below-none receivers = refl
+
+pub below-next : (receivers : List ℕ) (c : ℕ) → singularBelow receivers (c + 1) ≡ singularBelow receivers c + oneIf (eqb (at receivers c) c)
+unfolding singularBelow
+below-next receivers c =
+    ap (λ (l : List ℕ). length (keep own l)) (range-split 0 c 1) ∙ ap length (keep-append own (upto c) (range (0 + c) 1))
+    ∙ length-append (keep own (upto c)) (keep own (range (0 + c) 1))
+    ∙ ap (λ (k : ℕ). length (keep own (upto c)) + length (keep own (k ∷ []))) (zero-add c)
+    ∙ ap (λ (k : ℕ). length (keep own (upto c)) + k) (go (eqb (at receivers c) c))
+  where
+    own : ℕ → Bool
+    own d = eqb (at receivers d) d
+
+    go : (b : Bool) → length (cond b (c ∷ []) []) ≡ cond b 1 0
+    go true = refl
+    go false = refl
+
+module _ (L : Land) (n : ℕ) (entries : List ℕ) (F : FirstReceivers L n entries) where
+  singular-in : (c : ℕ) → c < n → singularOf L c < n
+  singular-in c h = subst (λ (k : ℕ). singularOf L c < k) (F .cells) (singularOf-below L c (subst (λ (k : ℕ). c < k) (sym (F .cells)) h))
+
+  below-basin : (c : ℕ) → c < n → singularBelow entries (singularOf L c) ≡ basin L c
+  unfolding singularBelow basin singular
+  below-basin c h =
+      ap length (keep-same (λ d. eqb (at entries d) d) (λ d. L .solid d && eqb (firstReceiver L d) d) (upto (singularOf L c)) same)
+      ∙ sym (rw (F .whole c h))
+    where
+      same : (x : ℕ) → x ∈ upto (singularOf L c) → eqb (at entries x) x ≡ L .solid x && eqb (firstReceiver L x) x
+      same x m = let l : x < n = lt-trans (mem-upto m) (singular-in c h) in rw (F .whole x l, F .firsts x l)
+
+  pub singular-within : (q : List ℕ) → q ≡ filled (singularOf L) n entries → Within n q
+  singular-within q e c h =
+      subst (λ (k : ℕ). k < n) (sym (ap (λ (l : List ℕ). at l c) e ∙ filled-at (singularOf L) n entries c h)) (singular-in c h)
+
+  -- counted, led to the singular cells, looked up
+  pub numbered : (numbers q out old : List ℕ) → numbers ≡ filled (singularBelow entries) n old → q ≡ filled (singularOf L) n entries
+      → out ≡ filled (λ c. at numbers (at q c)) n q → out ≡ filled (basin L) n entries
+  numbered numbers q out old a b e =
+      e ∙ filled-same (λ c. at numbers (at q c)) (basin L) n q found
+      ∙ ap (filled (basin L) n) b ∙ filled-again (basin L) (singularOf L) n entries
+    where
+      found : (c : ℕ) → c < n → at numbers (at q c) ≡ basin L c
+      found c h =
+          ap (at numbers) (ap (λ (l : List ℕ). at l c) b ∙ filled-at (singularOf L) n entries c h)
+          ∙ ap (λ (l : List ℕ). at l (singularOf L c)) a ∙ filled-at (singularBelow entries) n old (singularOf L c) (singular-in c h)
+          ∙ below-basin c h
+
+-- what rule 1's stage leaves of a tile is what rule 2's stage asks for
+pub tile-firsts : (w : ℕ) (heights marks old entries : List ℕ) → Tile w heights marks → length heights ≤ length old
+    → entries ≡ filled (firstReceiver (tileLand w heights marks)) (length heights) old
+    → FirstReceivers (tileLand w heights marks) (length heights) entries
+tile-firsts w heights marks old entries T room e =
+    record {
+      cells = refl;
+      few = T .few;
+      room =
+          let a : length entries ≡ length old =
+          ap length e ∙ filled-length (firstReceiver (tileLand w heights marks)) (length heights) old room in
+          omega arith;
+      firsts = λ c h. ap (λ (l : List ℕ). at l c) e ∙ filled-at (firstReceiver (tileLand w heights marks)) (length heights) old c h;
+      whole = λ c h. refl;
+    }

@@ -1,0 +1,109 @@
+// Rule 2, basins: the singular cell that each cell's first receivers lead to, and the number of each cell's basin.
+// Entries jump: each cell's entry is replaced by its entry's entry, until all entries lead far enough or none moves.
+ghost use mathlib.Core.Path.{_≡_};
+ghost use Prim.Native.Nat.{_+_, _<_, _≤_};
+ghost use lib.Dec.{eqb};
+ghost use lib.ListN.{length};
+ghost use Rattle.basins.specs.Jumps.{anyMoved, FirstReceivers, jumped, movedOn, oneIf, singularBelow, Within};
+ghost use Rattle.lists.specs.Lists.{at, filled};
+ghost use Rattle.rules.specs.FirstWays.{basin, singularOf};
+ghost use Rattle.rules.specs.Land.{Land};
+
+use kinds::Basin;
+use kinds::Cell;
+
+// Some entry has moved: one before, or this one from one cell to another.
+fn has_moved(before: bool, from: Cell, to: Cell) -> bool
+    ensures { λ r. ⌜ r ≡ movedOn before (from .0) (to .0) ⌝ }
+{
+    if from.0 == to.0 { before } else { true }
+}
+
+// One round: each entry jumps to its entry's entry. Says whether any moved.
+fn jump(entries: &mut [u16], n: usize) -> bool
+    requires { ⌜ (n ≤ length (now entries)) × Within n (now entries) ⌝ }
+    ensures { λ r. ⌜ (now (entries .exit) ≡ jumped n (now (entries .entry))) × (r ≡ anyMoved n (now (entries .entry))) ⌝ }
+{
+    let mut moved = false;
+    let mut c = 0;
+    while c < n {
+        let d = entries[c];
+        let e = entries[d as usize];
+        entries[c] = e;
+        moved = has_moved(moved, Cell(d), Cell(e));
+        c += 1;
+    }
+    moved
+}
+
+// From first receivers to the singular cells that they lead to, in place. After each round entries lead twice as far.
+pub fn singular_cells(entries: &mut [u16], n: usize)
+    requires { ⌜ ((L : Land) × FirstReceivers L n (now entries)) ⌝ }
+    ensures { λ _. ⌜
+        ((L : Land) → FirstReceivers L n (now (entries .entry)) → now (entries .exit) ≡ filled (singularOf L) n (now (entries .entry)))
+        ⌝ }
+{
+    let mut steps = 1;
+    while steps < n {
+        let moved = jump(entries, n);
+        if !moved {
+            return;
+        }
+        steps += steps;
+    }
+}
+
+// The number of the next basin after cell c: one more where c is singular, that is its own receiver.
+fn next_number(number: Basin, receiver: Cell, c: Cell) -> Basin
+    requires { ⌜ number .0 < 65535 ⌝ }
+    ensures { λ r. ⌜ r .0 ≡ number .0 + oneIf (eqb (receiver .0) (c .0)) ⌝ }
+{
+    if receiver.0 == c.0 {
+        Basin(number.0 + 1)
+    } else {
+        number
+    }
+}
+
+// For each cell, how many cells of lesser number are singular: at a singular cell, the number of its basin.
+fn number_basins(receivers: &[u16], n: usize, numbers: &mut [u16])
+    requires { ⌜ (n ≤ length (now receivers)) × (n ≤ length (now numbers)) × (n ≤ 4096) ⌝ }
+    ensures { λ _. ⌜ now (numbers .exit) ≡ filled (singularBelow (now (receivers .entry))) n (now (numbers .entry)) ⌝ }
+{
+    let mut number = Basin(0);
+    let mut c = 0;
+    while c < n {
+        numbers[c] = number.0;
+        number = next_number(number, Cell(receivers[c]), Cell(c as u16));
+        c += 1;
+    }
+}
+
+// Each entry, a cell, is replaced by the number that this cell has in a list.
+fn look_up(numbers: &[u16], n: usize, entries: &mut [u16])
+    requires { ⌜ (n ≤ length (now numbers)) × (n ≤ length (now entries)) × Within n (now entries) ⌝ }
+    ensures { λ _. ⌜
+        now (entries .exit) ≡ filled (λ c. at (now (numbers .entry)) (at (now (entries .entry)) c)) n (now (entries .entry))
+        ⌝ }
+{
+    let mut c = 0;
+    while c < n {
+        let d = entries[c] as usize;
+        entries[c] = numbers[d];
+        c += 1;
+    }
+}
+
+// From first receivers to basin numbers, in place. The work list is left with the count of singular cells below each cell.
+pub fn basin_numbers(n: usize, work: &mut [u16], entries: &mut [u16])
+    requires { ⌜ ((L : Land) × FirstReceivers L n (now entries)) ⌝ }
+    requires { ⌜ n ≤ length (now work) ⌝ }
+    ensures { λ _. ⌜
+        ((L : Land) → FirstReceivers L n (now (entries .entry)) → now (entries .exit) ≡ filled (basin L) n (now (entries .entry)))
+        ⌝ }
+    ensures { λ _. ⌜ now (work .exit) ≡ filled (singularBelow (now (entries .entry))) n (now (work .entry)) ⌝ }
+{
+    number_basins(entries, n, work);
+    singular_cells(entries, n);
+    look_up(work, n, entries);
+}

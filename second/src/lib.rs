@@ -1,0 +1,23 @@
+//! The second program: document 01 followed word for word, in plain Rust.
+//!
+//! It is written from document 01 alone and shares nothing with the proved library,
+//! so that a fault in one of the two shows when they are compared.
+//! Plainness comes before speed. The stages are public, one file for each,
+//! in the order of the rules, so that the comparison can exchange one for a wrong one.
+
+pub mod basins;
+pub mod call;
+pub mod carving;
+pub mod drain;
+pub mod first_receivers;
+pub mod flow;
+pub mod ground;
+pub mod network;
+pub mod network_record;
+pub mod passes;
+pub mod record;
+pub mod refusal;
+pub mod text;
+pub mod trace;
+
+pub use call::call;

@@ -1,0 +1,49 @@
+//! The network of a tile: rules 1 to 10, one after the other.
+
+use crate::basins::basins;
+use crate::carving::{carve, outflows};
+use crate::first_receivers::first_receivers;
+use crate::flow::{drainage, levels, order, wet};
+use crate::ground::{Basin, Cell, Ground};
+use crate::passes::{chosen_passes, crossings, passes};
+use crate::refusal::Refusal;
+
+/// All that a network record holds, as lists.
+#[derive(Clone, Debug, PartialEq, Eq)]
+pub struct Network {
+    pub receivers: Vec<Cell>,
+    pub basins: Vec<Basin>,
+    pub order: Vec<Cell>,
+    pub levels: Vec<i32>,
+    pub drainage: Vec<u32>,
+    pub wet: Vec<u8>,
+}
+
+/// The network of a ground that comes as lists, refused ones included.
+pub fn network_of_lists(ground: &Ground) -> Result<Network, Refusal> {
+    ground.judge()?;
+    Ok(network(ground))
+}
+
+/// The network of a ground that has been judged.
+pub fn network(ground: &Ground) -> Network {
+    let first_receivers = first_receivers(ground);
+    let basins = basins(&first_receivers);
+    let crossings = crossings(ground, &basins);
+    let passes = passes(&crossings, &basins);
+    let chosen = chosen_passes(&passes, &basins, ground);
+    let outflows = outflows(&chosen, &basins, ground);
+    let receivers = carve(&first_receivers, &outflows);
+    let order = order(&receivers);
+    let levels = levels(&receivers, &order, ground);
+    let drainage = drainage(&receivers, ground);
+    let wet = wet(&receivers, &levels, ground);
+    Network {
+        receivers,
+        basins: basins.of_cells,
+        order,
+        levels,
+        drainage,
+        wet,
+    }
+}

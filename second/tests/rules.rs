@@ -1,0 +1,200 @@
+//! The rules read once more, as slowly as they are written, on small tiles full of ties.
+//! Where the second program takes a quicker way, it has to come to the same.
+
+use second::basins::{basins, Basins};
+use second::carving::{outflows, Outflow};
+use second::first_receivers::first_receivers;
+use second::ground::{Basin, Cell, Ground, Size};
+use second::network::{network, Network};
+use second::passes::{chosen_passes, crossings, passes, Crossing};
+
+/// Small tiles with few heights and a few outlets, always the same ones.
+fn small_tiles() -> Vec<Ground> {
+    let mut state = 1_u64;
+    let mut below = move |limit: u64| {
+        state = state
+            .wrapping_mul(6_364_136_223_846_793_005)
+            .wrapping_add(1_442_695_040_888_963_407);
+        (state >> 33) % limit
+    };
+    let mut tiles = Vec::new();
+    for _ in 0..2_000 {
+        let (width, height) = (1 + below(5) as usize, 1 + below(5) as usize);
+        let cells = width * height;
+        let heights = 1 + below(5);
+        let mut marks = vec![0; cells];
+        for _ in 0..1 + below(3) {
+            marks[below(cells as u64) as usize] = 1;
+        }
+        tiles.push(Ground {
+            size: Size { width, height },
+            heights: (0..cells).map(|_| below(heights) as i32).collect(),
+            marks,
+            water: (0..cells).map(|_| below(100) as u16).collect(),
+        });
+    }
+    tiles
+}
+
+/// Basins, passes and chosen passes of a tile.
+fn stages(ground: &Ground) -> (Basins, Vec<Crossing>, Vec<Crossing>) {
+    let basins = basins(&first_receivers(ground));
+    let passes = passes(&crossings(ground, &basins), &basins);
+    let chosen = chosen_passes(&passes, &basins, ground);
+    (basins, passes, chosen)
+}
+
+fn is_outlet_basin(ground: &Ground, basins: &Basins, basin: Basin) -> bool {
+    ground.is_outlet(basins.singular_cell(basin))
+}
+
+/// All basins that these passes lead to from one, with all outlet basins joined.
+fn reached(from: Basin, along: &[Crossing], ground: &Ground, basins: &Basins) -> Vec<Basin> {
+    let mut reached = vec![from];
+    loop {
+        let before = reached.len();
+        let outlets: Vec<Basin> = basins
+            .all()
+            .filter(|&basin| is_outlet_basin(ground, basins, basin))
+            .collect();
+        let joined = along
+            .iter()
+            .map(|pass| vec![basins.of(pass.lesser), basins.of(pass.greater)]);
+        for group in joined.chain([outlets]) {
+            if group.iter().any(|basin| reached.contains(basin)) {
+                reached.extend(group);
+            }
+        }
+        reached.sort();
+        reached.dedup();
+        if reached.len() == before {
+            return reached;
+        }
+    }
+}
+
+#[test]
+fn a_pass_is_the_least_crossing_of_its_two_basins() {
+    for ground in small_tiles() {
+        let (basins, passes, _) = stages(&ground);
+        for crossing in crossings(&ground, &basins) {
+            let pair = second::passes::pair(crossing, &basins);
+            let of_pair = |pass: &&Crossing| second::passes::pair(**pass, &basins) == pair;
+            let found: Vec<&Crossing> = passes.iter().filter(of_pair).collect();
+            assert_eq!(found.len(), 1);
+            assert!(*found[0] <= crossing);
+        }
+    }
+}
+
+#[test]
+fn a_pass_is_chosen_exactly_when_no_chain_of_lesser_ones_joins_its_basins() {
+    for ground in small_tiles() {
+        let (basins, passes, chosen) = stages(&ground);
+        for (at, pass) in passes.iter().enumerate() {
+            let lesser = &passes[..at];
+            let joined = reached(basins.of(pass.lesser), lesser, &ground, &basins)
+                .contains(&basins.of(pass.greater));
+            assert_eq!(chosen.contains(pass), !joined, "{pass:?} in {ground:?}");
+        }
+    }
+}
+
+#[test]
+fn there_are_as_many_chosen_passes_as_inner_basins() {
+    for ground in small_tiles() {
+        let (basins, _, chosen) = stages(&ground);
+        let inner = basins
+            .all()
+            .filter(|&basin| !is_outlet_basin(&ground, &basins, basin));
+        assert_eq!(chosen.len(), inner.count());
+    }
+}
+
+/// Without its outflow a basin has no way left to an outlet basin, so it is on the only one.
+#[test]
+fn an_outflow_is_the_first_pass_on_the_only_way_out() {
+    for ground in small_tiles() {
+        let (basins, _, chosen) = stages(&ground);
+        for (number, outflow) in outflows(&chosen, &basins, &ground).iter().enumerate() {
+            let basin = Basin::at(number);
+            let Some(Outflow { near, far }) = *outflow else {
+                assert!(is_outlet_basin(&ground, &basins, basin));
+                continue;
+            };
+            let (lesser, greater) = (near.min(far), near.max(far));
+            let mut others = chosen.clone();
+            others.retain(|pass| (pass.lesser, pass.greater) != (lesser, greater));
+            assert_eq!(others.len() + 1, chosen.len());
+            assert_eq!(basins.of(near), basin);
+            let left = reached(basin, &others, &ground, &basins);
+            let leads_out = |&basin: &Basin| is_outlet_basin(&ground, &basins, basin);
+            assert!(!left.iter().any(leads_out));
+        }
+    }
+}
+
+/// A cell and all that lies above it, as rule 8 says it.
+fn above(cell: Cell, network: &Network) -> Vec<Cell> {
+    let mut order = vec![cell];
+    for (giver, &receiver) in network.receivers.iter().enumerate() {
+        if receiver == cell && Cell::at(giver) != cell {
+            order.extend(above(Cell::at(giver), network));
+        }
+    }
+    order
+}
+
+#[test]
+fn the_order_is_that_of_rule_8() {
+    for ground in small_tiles() {
+        let network = network(&ground);
+        let outlets = ground.cells().filter(|&cell| ground.is_outlet(cell));
+        let wanted: Vec<Cell> = outlets.flat_map(|outlet| above(outlet, &network)).collect();
+        assert_eq!(network.order, wanted);
+    }
+}
+
+#[test]
+fn a_level_is_the_greatest_height_on_the_way() {
+    for ground in small_tiles() {
+        let network = network(&ground);
+        for start in ground.cells() {
+            let (mut cell, mut greatest) = (start, ground.height(start));
+            while !ground.is_outlet(cell) {
+                cell = network.receivers[cell.index()];
+                greatest = greatest.max(ground.height(cell));
+            }
+            assert_eq!(network.levels[start.index()], greatest);
+        }
+    }
+}
+
+#[test]
+fn drainage_is_the_water_of_all_that_lies_above() {
+    for ground in small_tiles() {
+        let network = network(&ground);
+        for cell in ground.cells() {
+            let water = |above: &Cell| u32::from(ground.water[above.index()]);
+            let wanted: u32 = above(cell, &network).iter().map(water).sum();
+            assert_eq!(network.drainage[cell.index()], wanted);
+        }
+    }
+}
+
+/// Two wet neighbours with two levels: rule 10 asks for the receiver's level and no more.
+#[test]
+fn wet_neighbours_may_have_two_levels() {
+    let ground = Ground {
+        size: Size {
+            width: 4,
+            height: 3,
+        },
+        heights: vec![3, 2, 3, 2, 1, 2, 2, 3, 3, 2, 2, 3],
+        marks: vec![1, 0, 0, 0, 1, 0, 0, 0, 0, 0, 0, 0],
+        water: vec![1; 12],
+    };
+    let network = network(&ground);
+    assert_eq!((network.wet[6], network.wet[7]), (1, 1));
+    assert_ne!(network.levels[6], network.levels[7]);
+}

@@ -1,0 +1,214 @@
+//! Demand 3 by brute force, on nothing but the ground and the bytes that came back.
+//! Every way reaches an outlet, every level is the least that can be, and no water is lost.
+
+use std::cmp::Reverse;
+use std::collections::BinaryHeap;
+
+use second::ground::{Cell, Ground};
+
+/// The sections that demand 3 speaks of.
+struct Returned {
+    receivers: Vec<usize>,
+    levels: Vec<i32>,
+    drainage: Vec<u32>,
+}
+
+/// Judges a network record that was returned for a ground. An error says what is wrong.
+pub fn judge(ground: &Ground, network: &[u8]) -> Result<(), String> {
+    let returned = read(ground, network);
+    judge_steps(ground, &returned.receivers)?;
+    judge_ways(ground, &returned.receivers)?;
+    judge_levels(ground, &returned.levels)?;
+    judge_drainage(ground, &returned)
+}
+
+/// Reads three sections straight from their stretches of the record.
+fn read(ground: &Ground, network: &[u8]) -> Returned {
+    let cells = ground.size.cells();
+    let receivers = network[..2 * cells]
+        .chunks_exact(2)
+        .map(|entry| usize::from(entry[0]) + 256 * usize::from(entry[1]))
+        .collect();
+    let four = |from: usize| {
+        network[from * cells..(from + 4) * cells]
+            .chunks_exact(4)
+            .map(|entry| u32::from_le_bytes([entry[0], entry[1], entry[2], entry[3]]))
+    };
+    Returned {
+        receivers,
+        levels: four(6).map(|level| level as i32).collect(),
+        drainage: four(10).collect(),
+    }
+}
+
+/// Each step goes to a neighbour, and an outlet's receiver is itself.
+fn judge_steps(ground: &Ground, receivers: &[usize]) -> Result<(), String> {
+    for cell in ground.cells() {
+        let receiver = receivers[cell.index()];
+        let allowed = match ground.is_outlet(cell) {
+            true => receiver == cell.index(),
+            false => ground
+                .size
+                .neighbours(cell)
+                .any(|neighbour| neighbour.index() == receiver),
+        };
+        if !allowed {
+            return Err(format!("cell {} can't receive to {receiver}", cell.0));
+        }
+    }
+    Ok(())
+}
+
+/// From each cell the receivers lead to an outlet, over no cell twice,
+/// in no more steps than there are cells that aren't outlets.
+fn judge_ways(ground: &Ground, receivers: &[usize]) -> Result<(), String> {
+    let most_steps = ground.marks.iter().filter(|&&mark| mark == 0).count();
+    let mut met_from = vec![usize::MAX; receivers.len()];
+    for start in 0..receivers.len() {
+        let (mut cell, mut steps) = (start, 0);
+        met_from[cell] = start;
+        while ground.marks[cell] == 0 {
+            cell = receivers[cell];
+            steps += 1;
+            if met_from[cell] == start {
+                return Err(format!("the way of cell {start} meets cell {cell} twice"));
+            }
+            met_from[cell] = start;
+        }
+        if steps > most_steps {
+            return Err(format!("the way of cell {start} takes {steps} steps"));
+        }
+    }
+    Ok(())
+}
+
+/// Each level is the least highest point of all ways over neighbours to any outlet.
+fn judge_levels(ground: &Ground, levels: &[i32]) -> Result<(), String> {
+    let wanted = least_highest_points(ground);
+    match (0..levels.len()).find(|&cell| levels[cell] != wanted[cell]) {
+        None => Ok(()),
+        Some(cell) => Err(format!(
+            "the level of cell {cell} is {}, and its least highest point {}",
+            levels[cell], wanted[cell]
+        )),
+    }
+}
+
+/// Spreads from the outlets, always on from the lowest point reached so far.
+fn least_highest_points(ground: &Ground) -> Vec<i32> {
+    let mut found: Vec<Option<i32>> = vec![None; ground.size.cells()];
+    let mut reached: BinaryHeap<Reverse<(i32, Cell)>> = ground
+        .cells()
+        .filter(|&cell| ground.is_outlet(cell))
+        .map(|cell| Reverse((ground.height(cell), cell)))
+        .collect();
+    while let Some(Reverse((point, cell))) = reached.pop() {
+        if found[cell.index()].is_some() {
+            continue;
+        }
+        found[cell.index()] = Some(point);
+        for neighbour in ground.size.neighbours(cell) {
+            let beyond = point.max(ground.height(neighbour));
+            reached.push(Reverse((beyond, neighbour)));
+        }
+    }
+    found
+        .into_iter()
+        .map(|point| point.expect("every cell of a tile can be reached"))
+        .collect()
+}
+
+/// Each cell passes on its own water and all that it receives; the outlets get all there is.
+fn judge_drainage(ground: &Ground, returned: &Returned) -> Result<(), String> {
+    let water = || ground.water.iter().map(|&water| u64::from(water));
+    let mut wanted: Vec<u64> = water().collect();
+    for (cell, &receiver) in returned.receivers.iter().enumerate() {
+        if receiver != cell {
+            wanted[receiver] += u64::from(returned.drainage[cell]);
+        }
+    }
+    for (cell, &wanted) in wanted.iter().enumerate() {
+        let found = returned.drainage[cell];
+        if u64::from(found) != wanted {
+            return Err(format!(
+                "the drainage of cell {cell} is {found}, not {wanted}"
+            ));
+        }
+    }
+    let total: u64 = water().sum();
+    let out: u64 = ground
+        .cells()
+        .filter(|&cell| ground.is_outlet(cell))
+        .map(|cell| u64::from(returned.drainage[cell.index()]))
+        .sum();
+    match out == total {
+        true => Ok(()),
+        false => Err(format!("the outlets drain {out} of {total}")),
+    }
+}
+
+#[cfg(test)]
+mod tests {
+    use super::*;
+    use second::ground::Size;
+
+    /// Sample G.
+    fn ground() -> Ground {
+        Ground {
+            size: Size {
+                width: 6,
+                height: 1,
+            },
+            heights: vec![7, 1, 3, 2, 5, 0],
+            marks: vec![1, 0, 0, 0, 0, 1],
+            water: vec![1; 6],
+        }
+    }
+
+    fn network(receivers: [u16; 6], levels: [i32; 6], drainage: [u32; 6]) -> Vec<u8> {
+        let mut bytes: Vec<u8> = receivers
+            .iter()
+            .flat_map(|cell| cell.to_le_bytes())
+            .collect();
+        bytes.extend([0; 24]);
+        bytes.extend(levels.iter().flat_map(|level| level.to_le_bytes()));
+        bytes.extend(drainage.iter().flat_map(|sum| sum.to_le_bytes()));
+        bytes
+    }
+
+    const RECEIVERS: [u16; 6] = [0, 2, 3, 4, 5, 5];
+    const LEVELS: [i32; 6] = [7, 5, 5, 5, 5, 0];
+    const DRAINAGE: [u32; 6] = [1, 1, 2, 3, 4, 5];
+
+    #[test]
+    fn sample_g_is_accepted() {
+        assert_eq!(
+            judge(&ground(), &network(RECEIVERS, LEVELS, DRAINAGE)),
+            Ok(())
+        );
+    }
+
+    #[test]
+    fn a_ring_is_refused() {
+        let ring = network([0, 2, 1, 4, 5, 5], LEVELS, DRAINAGE);
+        assert!(judge(&ground(), &ring).unwrap_err().contains("twice"));
+    }
+
+    #[test]
+    fn a_leap_is_refused() {
+        let leap = network([0, 5, 3, 4, 5, 5], LEVELS, DRAINAGE);
+        assert!(judge(&ground(), &leap).unwrap_err().contains("receive to"));
+    }
+
+    #[test]
+    fn a_level_too_high_is_refused() {
+        let too_high = network(RECEIVERS, [7, 7, 5, 5, 5, 0], DRAINAGE);
+        assert!(judge(&ground(), &too_high).unwrap_err().contains("level"));
+    }
+
+    #[test]
+    fn lost_water_is_refused() {
+        let lost = network(RECEIVERS, LEVELS, [1, 1, 2, 3, 4, 4]);
+        assert!(judge(&ground(), &lost).unwrap_err().contains("drainage"));
+    }
+}

@@ -1,0 +1,21 @@
+//! The comparison harness: generated records, the library under test, the second program,
+//! and every byte that either of them leaves.
+
+pub mod arguments;
+pub mod cases;
+pub mod chance;
+pub mod comparison;
+pub mod damage;
+pub mod demand3;
+pub mod difference;
+pub mod drain_run;
+pub mod exhaustive;
+pub mod families;
+pub mod lending;
+pub mod library;
+#[cfg(feature = "linked")]
+mod linked;
+pub mod mutants;
+pub mod outlets;
+pub mod reliefs;
+pub mod tally;

@@ -1,0 +1,170 @@
+//! The comparison program: runs what the arguments ask for and ends with one line of result.
+
+use std::env;
+use std::path::Path;
+use std::process::ExitCode;
+use std::time::{Duration, Instant};
+
+use compare::arguments::{Arguments, Mode, USAGE};
+use compare::cases::{specimen, ROOMS};
+use compare::comparison::compare;
+use compare::difference::Difference;
+use compare::drain_run::{compare_program, DEFAULT_INPUTS};
+use compare::library::{self, under_test};
+use compare::tally::Tally;
+use compare::{exhaustive, mutants};
+
+/// How many calls a run compares when nothing else is asked for.
+const DEFAULT_CASES: u64 = 100_000;
+
+/// How often a default run must have seen each refusal number.
+const LEAST_REFUSALS: u64 = 500;
+
+/// Differences beyond these are counted and not printed.
+const MOST_PRINTED: u64 = 10;
+
+fn main() -> ExitCode {
+    let arguments = match Arguments::read(env::args().skip(1)) {
+        Ok(arguments) => arguments,
+        Err(wrong) => {
+            eprintln!("{wrong}\n{USAGE}");
+            return ExitCode::from(2);
+        }
+    };
+    let good = match &arguments.mode {
+        Mode::Everything => everything(&arguments),
+        Mode::Exhaustive => every_3_by_3(&arguments),
+        Mode::Drain(program) => drain(&arguments, program),
+        Mode::Mutants => mutants(&arguments),
+    };
+    match good {
+        true => ExitCode::SUCCESS,
+        false => ExitCode::FAILURE,
+    }
+}
+
+/// All families, then every 3 by 3 tile.
+fn everything(arguments: &Arguments) -> bool {
+    let seed = arguments.seed;
+    println!("comparing {}, seed {seed}", library::description());
+    let cases = arguments.cases.unwrap_or(DEFAULT_CASES);
+    let records = cases.div_ceil(ROOMS as u64);
+    let mut tally = Tally::default();
+    let mut progress = Progress::new(arguments, cases + exhaustive::TILES);
+    for index in 0..records {
+        let specimen = specimen(seed, index);
+        if arguments.name_each {
+            eprintln!("family {}, index {index}", specimen.family);
+        }
+        let difference = compare(under_test(), &specimen, &mut tally);
+        print_difference(difference, &tally);
+        progress.say(tally.cases(), tally.differences);
+    }
+    compare_every_3_by_3(&mut tally, &mut progress);
+    let (number, times) = tally.rarest_refusal();
+    let rare = cases >= DEFAULT_CASES && times < LEAST_REFUSALS;
+    println!("{tally}");
+    if rare {
+        println!("refusal {number} came only {times} times, which is too few for a default run");
+    }
+    last_line(tally.cases(), tally.differences) && !rare
+}
+
+fn every_3_by_3(arguments: &Arguments) -> bool {
+    println!("comparing {}", library::description());
+    let mut tally = Tally::default();
+    let mut progress = Progress::new(arguments, exhaustive::TILES);
+    compare_every_3_by_3(&mut tally, &mut progress);
+    println!("{tally}");
+    last_line(tally.cases(), tally.differences)
+}
+
+fn compare_every_3_by_3(tally: &mut Tally, progress: &mut Progress) {
+    for number in 0..exhaustive::TILES {
+        let difference = exhaustive::compare_tile(under_test(), number, tally);
+        print_difference(difference, tally);
+        progress.say(tally.cases(), tally.differences);
+    }
+}
+
+/// The text of a drain program.
+fn drain(arguments: &Arguments, program: &Path) -> bool {
+    let seed = arguments.seed;
+    let inputs = arguments.cases.unwrap_or(DEFAULT_INPUTS);
+    println!("comparing {}, seed {seed}", program.display());
+    let mut progress = Progress::new(arguments, inputs);
+    match compare_program(program, seed, inputs, |done, differing| {
+        progress.say(done, differing)
+    }) {
+        Ok(differences) => {
+            for difference in differences.iter().take(MOST_PRINTED as usize) {
+                println!("{difference}");
+            }
+            // The endless input is one case more.
+            last_line(inputs + 1, differences.len() as u64)
+        }
+        Err(error) => {
+            println!("{} can't be run: {error}", program.display());
+            false
+        }
+    }
+}
+
+/// How soon each wrong library is caught. One that isn't caught is a fault of the harness.
+fn mutants(arguments: &Arguments) -> bool {
+    let most = arguments.cases.unwrap_or(mutants::MOST_CASES);
+    let mut missed = 0;
+    println!("{:<60}{:>8}", "wrong library", "cases");
+    for mutant in mutants::all() {
+        match mutants::caught_after(mutant.library, arguments.seed, most) {
+            Some(cases) => println!("{:<60}{cases:>8}", mutant.name),
+            None => {
+                missed += 1;
+                println!("{:<60}{:>8}", mutant.name, "missed");
+            }
+        }
+    }
+    println!("mutants: {} tried, {missed} missed", mutants::all().len());
+    missed == 0
+}
+
+fn print_difference(difference: Option<Difference>, tally: &Tally) {
+    if let Some(difference) = difference.filter(|_| tally.differences <= MOST_PRINTED) {
+        println!("{difference}");
+    }
+}
+
+fn last_line(cases: u64, differences: u64) -> bool {
+    println!("compare: {cases} cases, {differences} differences");
+    differences == 0
+}
+
+/// A line on the error output every few seconds.
+struct Progress {
+    wanted: bool,
+    all: u64,
+    start: Instant,
+    next: Duration,
+}
+
+impl Progress {
+    const EVERY: Duration = Duration::from_secs(5);
+
+    fn new(arguments: &Arguments, all: u64) -> Progress {
+        Progress {
+            wanted: arguments.progress,
+            all,
+            start: Instant::now(),
+            next: Progress::EVERY,
+        }
+    }
+
+    fn say(&mut self, done: u64, differences: u64) {
+        if self.wanted && self.start.elapsed() >= self.next {
+            let seconds = self.start.elapsed().as_secs();
+            let all = self.all;
+            eprintln!("{done} of {all} cases, {differences} differences, {seconds} s");
+            self.next = self.start.elapsed() + Progress::EVERY;
+        }
+    }
+}

@@ -1,0 +1,36 @@
+//! The comparison program as a program: its last line and its exit status.
+
+use std::process::{Command, Output};
+
+fn run(arguments: &[&str]) -> Output {
+    Command::new(env!("CARGO_BIN_EXE_compare"))
+        .args(arguments)
+        .output()
+        .unwrap()
+}
+
+fn last_line(output: &Output) -> String {
+    let text = String::from_utf8_lossy(&output.stdout);
+    text.lines().last().unwrap_or_default().to_string()
+}
+
+#[test]
+fn no_difference_gives_status_0() {
+    let output = run(&["--cases", "400", "--seed", "9"]);
+    // 400 generated calls and every 3 by 3 tile.
+    assert_eq!(last_line(&output), "compare: 177547 cases, 0 differences");
+    assert_eq!(output.status.code(), Some(0));
+}
+
+#[test]
+fn a_difference_gives_status_1() {
+    let output = run(&["--drain", "cat", "--cases", "5"]);
+    // Five inputs and the endless one.
+    assert_eq!(last_line(&output), "compare: 6 cases, 6 differences");
+    assert_eq!(output.status.code(), Some(1));
+}
+
+#[test]
+fn a_wrong_argument_gives_status_2() {
+    assert_eq!(run(&["--fast"]).status.code(), Some(2));
+}
