@@ -8,7 +8,6 @@ ghost use Rattle.basins.specs.Jumps.{anyMoved, FirstReceivers, jumped, m
 ghost use Rattle.lists.specs.Lists.{at, filled};
 ghost use Rattle.rules.specs.FirstWays.{basin, singularOf};
 ghost use Rattle.rules.specs.Land.{Land};
-
 use kinds::Basin;
 use kinds::Cell;
 

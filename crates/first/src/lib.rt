@@ -9,7 +9,6 @@ ghost use Rattle.lists.specs.Lists.{filled};
 ghost use Rattle.rules.specs.FirstWays.{firstReceiver};
 ghost use Rattle.tiles.specs.Tile.{Tile, tileLand};
 ghost use Rattle.first.specs.Tries as S;
-
 use kinds::Cell;
 use tiles::is_outlet;
 
