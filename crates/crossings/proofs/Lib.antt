@@ -1,0 +1,5 @@
+pub mod KeyOrder
+pub mod Sides
+pub mod Adding
+pub mod Crossed
+pub mod CellPairs

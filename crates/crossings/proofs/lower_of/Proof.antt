@@ -1,0 +1,27 @@
+-- `crossings::lower_of` meets its contract.
+-- Assumes nothing.
+use borrow.Author.Needs.{needs}
+use borrow.Author.Tests.{le-ltb, lt-ltb}
+use Rattle.crossings.specs.Listing.{lowerOf}
+use Rattle.crossings.proofs.lower_of.Statement.{statement}
+use Rattle.crossings.proofs.lower_of.Tie as tie
+
+cast-below : tie.Need-cast-below
+cast-below c = search needs
+
+add-below : tie.Need-add-below
+add-below c = search needs
+
+cast-t8 : tie.Need-cast-t8
+cast-t8 c = search needs
+
+returns : tie.Need-returns
+unfolding lowerOf
+returns c = rw (lt-ltb _ _ (c .if1 .taken))
+
+returns-2 : tie.Need-returns-2
+unfolding lowerOf
+returns-2 c = rw (le-ltb _ _ (c .if1 .left))
+
+pub lower-of-spec : {M : Type 1} → statement M
+lower-of-spec = tie.close (tie.spec cast-below add-below cast-t8 returns returns-2)
