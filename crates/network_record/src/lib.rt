@@ -44,8 +44,14 @@ fn write_section_levels(bytes: &mut [u8], from: usize, levels: &[u32])
 
 // Receivers, basins and order: the first three sections, for n cells.
 fn write_flow(n: usize, receivers: &[u16], basins: &[u16], order: &[u16], bytes: &mut [u8])
-    requires { ⌜ (n ≤ 4096) × (length (now receivers) ≡ n) × (length (now basins) ≡ n) × (length (now order) ≡ n) × (6 * n ≤ length (now bytes)) ⌝ }
-    ensures { λ _. ⌜ now (bytes .exit) ≡ flowSections (now (receivers .entry)) (now (basins .entry)) (now (order .entry)) ++ drop (6 * n) (now (bytes .entry)) ⌝ }
+    requires { ⌜
+        (n ≤ 4096) × (length (now receivers) ≡ n) × (length (now basins) ≡ n) × (length (now order) ≡ n)
+        × (6 * n ≤ length (now bytes))
+        ⌝ }
+    ensures { λ _. ⌜
+        now (bytes .exit)
+        ≡ flowSections (now (receivers .entry)) (now (basins .entry)) (now (order .entry)) ++ drop (6 * n) (now (bytes .entry))
+        ⌝ }
 {
     little::write_section_u16(bytes, 0, receivers);
     little::write_section_u16(bytes, 2 * n, basins);
@@ -54,8 +60,14 @@ fn write_flow(n: usize, receivers: &[u16], basins: &[u16], order: &[u16], bytes:
 
 // Levels, drainage and wet: the other three, from index 6N on.
 fn write_water(n: usize, levels: &[u32], drainage: &[u32], wet: &[u8], bytes: &mut [u8])
-    requires { ⌜ (n ≤ 4096) × (length (now levels) ≡ n) × (length (now drainage) ≡ n) × (length (now wet) ≡ n) × (15 * n ≤ length (now bytes)) × Lifted (now levels) ⌝ }
-    ensures { λ _. ⌜ now (bytes .exit) ≡ stored (6 * n) (waterSections (now (levels .entry)) (now (drainage .entry)) (now (wet .entry))) (now (bytes .entry)) ⌝ }
+    requires { ⌜
+        (n ≤ 4096) × (length (now levels) ≡ n) × (length (now drainage) ≡ n) × (length (now wet) ≡ n)
+        × (15 * n ≤ length (now bytes)) × Lifted (now levels)
+        ⌝ }
+    ensures { λ _. ⌜
+        now (bytes .exit)
+        ≡ stored (6 * n) (waterSections (now (levels .entry)) (now (drainage .entry)) (now (wet .entry))) (now (bytes .entry))
+        ⌝ }
 {
     write_section_levels(bytes, 6 * n, levels);
     little::write_section_u32(bytes, 10 * n, drainage);
@@ -98,7 +110,14 @@ pub fn write_network(
     bytes: &mut [u8],
 )
     requires { ⌜ Written width height (now receivers) (now basins) (now order) (now levels) (now drainage) (now wet) (now bytes) ⌝ }
-    ensures { λ _. ⌜ now (bytes .exit) ≡ overwrite (networkRecord width height (networkOfLists (now (receivers .entry)) (now (basins .entry)) (now (order .entry)) (map dropped (now (levels .entry))) (now (drainage .entry)) (now (wet .entry)))) (now (bytes .entry)) ⌝ }
+    ensures { λ _. ⌜
+        now (bytes .exit)
+        ≡ overwrite
+        (networkRecord width height
+        (networkOfLists (now (receivers .entry)) (now (basins .entry)) (now (order .entry)) (map dropped (now (levels .entry)))
+        (now (drainage .entry)) (now (wet .entry))))
+        (now (bytes .entry))
+        ⌝ }
 {
     let n = cells(width, height) as usize;
     write_flow(n, receivers, basins, order, bytes);
