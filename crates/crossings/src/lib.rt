@@ -5,7 +5,7 @@ ghost use mathlib.Core.Path.{_≡_};
 ghost use Prim.Native.Nat.{_%_, _+_, _<_, _≤_};
 ghost use lib.Dec.{ltb};
 ghost use lib.ListN.{length};
-ghost use Rattle.crossings.specs.Keys.{greaterCell, key, lesserCell};
+ghost use Rattle.crossings.specs.Keys.{greaterCell, lesserCell};
 ghost use Rattle.crossings.specs.Listing.{Adds, crossingKeys, keyBetween, keyIf, Lifted, Listable, Lists};
 ghost use Rattle.crossings.specs.Listing.{lowerOf, rightOf};
 use kinds::Cell;
