@@ -1,0 +1,3 @@
+pub mod Backwards
+pub mod Wetness
+pub mod Stages

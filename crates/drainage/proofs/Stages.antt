@@ -1,0 +1,67 @@
+-- What the walk leaves of a tile is what drainage and the wet list ask for.
+-- Assumes nothing.
+use mathlib.Core.List.{List, _++_}
+use mathlib.Core.Path.{ap, refl, _∙_, _≡_}
+use Prim.Native.Nat.{ℕ, _+_, _<_, _≤_}
+use native.Mathlib.Omega.{arith}
+use lib.ListN.{length, length-append, List·getD-append, take}
+use lib.Seq.{take-at}
+use Rattle.drainage.specs.Giving.{Levelled, Ordered}
+use Rattle.lists.proofs.Entries.{filled-at, keep-all}
+use Rattle.lists.proofs.Fill.{filled-length}
+use Rattle.lists.proofs.Ranges.{length-range}
+use Rattle.lists.specs.Lists.{at, filled, upto}
+use Rattle.rules.proofs.Orders.{order-length}
+use Rattle.rules.specs.Carving.{receivers}
+use Rattle.rules.specs.FirstWays.{solidCells}
+use Rattle.rules.specs.Land.{Land}
+use Rattle.rules.specs.Network.{level, order}
+use Rattle.rules.specs.Way.{Drains}
+use Rattle.tiles.specs.Tile.{Tile, tileLand}
+
+module _ (w : ℕ) (heights marks r : List ℕ) (T : Tile w heights marks) (D : Drains (tileLand w heights marks) r)
+    (receivers past : List ℕ) (e : receivers ≡ r ++ past) where
+  abbrev L : Land
+  L = tileLand w heights marks
+
+  abbrev n : ℕ
+  n = length heights
+
+  receivers-fit : n ≤ length receivers
+  receivers-fit = let a : length receivers ≡ length r + length past = ap length e ∙ length-append r past in let b = D .full in omega arith
+
+  receivers-at : (c : ℕ) → c < n → at receivers c ≡ at r c
+  receivers-at c h = ap (λ (z : List ℕ). at z c) e ∙ List·getD-append r past 0 c (let b = D .full in omega arith)
+
+  order-full : length (order L r) ≡ n
+  unfolding solidCells
+  order-full = order-length L r D ∙ ap length (keep-all (L .solid) (upto n) (λ x m. refl)) ∙ length-range n 0
+
+  pub tile-ordered : (ordered rest : List ℕ) → ordered ≡ order L r ++ rest → Ordered L r n ordered receivers
+  tile-ordered ordered rest f =
+      record {
+        cells = refl;
+        few = T .few;
+        whole = λ c h. refl;
+        drains = D;
+        fits-order =
+            let a : length ordered ≡ length (order L r) + length rest = ap length f ∙ length-append (order L r) rest in
+            let b = order-full in
+            omega arith;
+        fits-receivers = receivers-fit;
+        order-is = ap (take n) f ∙ take-at (order L r) rest n order-full;
+        receivers-are = receivers-at;
+      }
+
+  pub tile-levelled : (levels old : List ℕ) → n ≤ length old → levels ≡ filled (level L r) n old → Levelled L r n receivers levels
+  tile-levelled levels old room f =
+      record {
+        cells = refl;
+        few = T .few;
+        whole = λ c h. refl;
+        drains = D;
+        fits-receivers = receivers-fit;
+        fits-levels = let a : length levels ≡ length old = ap length f ∙ filled-length (level L r) n old room in omega arith;
+        receivers-are = receivers-at;
+        levels-are = λ c h. ap (λ (z : List ℕ). at z c) f ∙ filled-at (level L r) n old c h;
+      }

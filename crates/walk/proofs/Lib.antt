@@ -1,0 +1,7 @@
+pub mod Bits
+pub mod Pushes
+pub mod Noted
+pub mod Upstream
+pub mod Midway
+pub mod Ends
+pub mod Networks
