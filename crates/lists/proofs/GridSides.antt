@@ -110,3 +110,10 @@ sharing w a b h (rightward k e) =
 sharing w a b h (downward e) =
     in-column (sym (ap (λ (n : ℕ). n % w) e ∙ add-mod-right a w))
     (inl (sym (ap (λ (n : ℕ). n / w) e ∙ add-div-right a h ∙ add-one (a / w))))
+
+-- none of the four is a itself
+pub towards-apart : (w a b : ℕ) → 0 < w → Towards w a b → a ≡ b → ⊥
+towards-apart w a b h (upward k e) q = omega arith
+towards-apart w a b h (leftward k e) q = let m : a % w ≤ a = mod-le a w in omega arith
+towards-apart w a b h (rightward k e) q = omega arith
+towards-apart w a b h (downward e) q = omega arith

@@ -1,0 +1,6 @@
+pub mod Digits
+pub mod Writing
+pub mod Lines
+pub mod Sums
+pub mod Lengths
+pub mod Balance

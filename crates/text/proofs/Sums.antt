@@ -1,0 +1,62 @@
+-- The sums of the last line: one cell more at each turn, and how large they are.
+-- Assumes nothing.
+use mathlib.Core.Bool.{Bool, cond, false, true}
+use mathlib.Core.List.{[], List, map, _++_, _∷_}
+use mathlib.Core.Path.{ap, refl, _∙_, _≡_}
+use Prim.Native.Nat.{suc, zero, ℕ, _*_, _+_, _<_, _≤_}
+use native.Mathlib.Nat.{add-zero, zero-add}
+use native.Mathlib.Numerals.{add-one}
+use native.Mathlib.Omega.{arith}
+use lib.Dec.{eqb}
+use lib.ListN.{length, take}
+use lib.Seq.{take-suc}
+use Rattle.lists.proofs.Ranges.{keep-append, range-split}
+use Rattle.lists.proofs.Sums.{sum-append}
+use Rattle.lists.specs.Lists.{at, keep, sum, upto}
+use Rattle.text.specs.Text.{outletDrainage}
+
+pub outletDrainage-next : (drainage marks : List ℕ) (n : ℕ)
+    → outletDrainage drainage marks (n + 1) ≡ outletDrainage drainage marks n + cond (eqb (at marks n) 1) (at drainage n) 0
+unfolding outletDrainage
+outletDrainage-next drainage marks n =
+    let p : ℕ → Bool = λ c. eqb (at marks c) 1 in
+    ap (λ (l : List ℕ). sum (map (at drainage) (keep p l))) (range-split 0 n 1 ∙ ap (λ (k : ℕ). upto n ++ (k ∷ [])) (zero-add n))
+    ∙ ap (λ (l : List ℕ). sum (map (at drainage) l)) (keep-append p (upto n) (n ∷ []))
+    ∙ sum-append (at drainage) (keep p (upto n)) (keep p (n ∷ []))
+    ∙ ap (λ (k : ℕ). sum (map (at drainage) (keep p (upto n))) + k) (one (p n))
+  where
+    one : (b : Bool) → sum (map (at drainage) (cond b (n ∷ []) [])) ≡ cond b (at drainage n) 0
+    one true = add-zero (at drainage n)
+    one false = refl
+
+sum-snoc : (l : List ℕ) (x : ℕ) → sum (l ++ (x ∷ [])) ≡ sum l + x
+sum-snoc [] x = omega arith
+sum-snoc (y ∷ ys) x = let e : sum (ys ++ (x ∷ [])) ≡ sum ys + x = sum-snoc ys x in omega arith
+
+pub sum-next : (l : List ℕ) (n : ℕ) → n < length l → sum (take (n + 1) l) ≡ sum (take n l) + at l n
+sum-next l n h = rw (add-one, take-suc l n 0) (sum-snoc (take n l) (at l n))
+
+outletDrainage-none : (drainage marks : List ℕ) → outletDrainage drainage marks 0 ≤ 4294967295 * 0
+unfolding outletDrainage
+outletDrainage-none drainage marks = omega arith
+
+-- no more than all cells can have
+pub outletDrainage-most : (drainage marks : List ℕ) (n : ℕ) → ((c : ℕ) → at drainage c < 4294967296)
+    → outletDrainage drainage marks n ≤ 4294967295 * n
+outletDrainage-most drainage marks zero h = outletDrainage-none drainage marks
+outletDrainage-most drainage marks (suc n) h =
+    rw (← add-one n, outletDrainage-next drainage marks n)
+    (let a : cond (eqb (at marks n) 1) (at drainage n) 0 < 4294967296 = share (eqb (at marks n) 1) (h n) in
+    let b : outletDrainage drainage marks n ≤ 4294967295 * n = outletDrainage-most drainage marks n h in
+    omega arith)
+  where
+    share : (b : Bool) → at drainage n < 4294967296 → cond b (at drainage n) 0 < 4294967296
+    share true l = l
+    share false l = omega arith
+
+pub sum-most : (l : List ℕ) → ((c : ℕ) → at l c < 65536) → sum l ≤ 65535 * length l
+sum-most [] h = omega arith
+sum-most (x ∷ xs) h =
+    let a : x < 65536 = h 0 in
+    let b : sum xs ≤ 65535 * length xs = sum-most xs (λ c. h (suc c)) in
+    omega arith

@@ -1,0 +1,204 @@
+// The text that `drain` prints (document 01), for a tile and for a refusal, as bytes in a lent list: specs/Text.antt says which.
+// Only reading and writing are left to the program. These are leaves: callers show that there is room, as `Printable` says.
+ghost use mathlib.Core.Bool.{cond};
+ghost use mathlib.Core.List.{[], map, _++_, _∷_};
+ghost use mathlib.Core.Path.{_≡_};
+ghost use Prim.Native.Nat.{_<_, _≤_};
+ghost use lib.Dec.{eqb};
+ghost use lib.ListN.{length};
+ghost use Rattle.lists.specs.Lists.{at, sum};
+ghost use Rattle.rules.specs.Ground.{dropped};
+ghost use Rattle.text.specs.Text.{cellLine, cellLines, decimal, outletDrainage, refusedText, signedDecimal};
+ghost use Rattle.text.specs.Text.{sizeLine, sumsLine, tileText};
+ghost use Rattle.text.specs.Writing.{CellRoom, Printable, Printed, Room, Wrote};
+use kinds::Cell;
+
+// A number's decimal digits: those of its tenth, and then the last one.
+fn write_decimal(text: &mut [u8], from: usize, n: u64) -> usize
+    requires { ⌜ Room from (decimal n) (now text) ⌝ }
+    ensures { λ r. ⌜ Wrote from (decimal n) (now (text .entry)) (now (text .exit)) r ⌝ }
+{
+    if n < 10 {
+        text[from] = b'0' + n as u8;
+        return from + 1;
+    }
+    let to = write_decimal(text, from, n / 10);
+    text[to] = b'0' + (n % 10) as u8;
+    to + 1
+}
+
+// A number's digits, and then a space or a newline.
+fn write_number(text: &mut [u8], from: usize, n: u64, after: u8) -> usize
+    requires { ⌜ Room from (decimal n ++ (after ∷ [])) (now text) ⌝ }
+    ensures { λ r. ⌜ Wrote from (decimal n ++ (after ∷ [])) (now (text .entry)) (now (text .exit)) r ⌝ }
+{
+    let to = write_decimal(text, from, n);
+    text[to] = after;
+    to + 1
+}
+
+// A lifted level as the signed number that it stands for, and then a space.
+fn write_level(text: &mut [u8], from: usize, level: u32) -> usize
+    requires { ⌜ Room from (signedDecimal (dropped level) ++ (32 ∷ [])) (now text) ⌝ }
+    ensures { λ r. ⌜ Wrote from (signedDecimal (dropped level) ++ (32 ∷ [])) (now (text .entry)) (now (text .exit)) r ⌝ }
+{
+    if 8_000_000 <= level {
+        write_number(text, from, (level - 8_000_000) as u64, b' ')
+    } else {
+        text[from] = b'-';
+        write_number(text, from + 1, (8_000_000 - level) as u64, b' ')
+    }
+}
+
+// A word, with the space that follows it.
+fn write_word(text: &mut [u8], from: usize, word: &[u8]) -> usize
+    requires { ⌜ Room from (now word) (now text) ⌝ }
+    ensures { λ r. ⌜ Wrote from (now (word .entry)) (now (text .entry)) (now (text .exit)) r ⌝ }
+{
+    little::write_section_u8(text, from, word);
+    from + word.len()
+}
+
+// The line of a cell: number, receiver, level, drainage.
+fn write_cell(
+    text: &mut [u8],
+    from: usize,
+    cell: Cell,
+    receiver: Cell,
+    level: u32,
+    drainage: u32,
+) -> usize
+    requires { ⌜ Room from (cellLine (cell .0) (receiver .0) (dropped level) drainage) (now text) ⌝ }
+    ensures { λ r. ⌜
+        Wrote from (cellLine (cell .0) (receiver .0) (dropped level) drainage) (now (text .entry)) (now (text .exit)) r
+        ⌝ }
+{
+    let second = write_number(text, from, cell.0 as u64, b' ');
+    let third = write_number(text, second, receiver.0 as u64, b' ');
+    let fourth = write_level(text, third, level);
+    write_number(text, fourth, drainage as u64, b'\n')
+}
+
+// The lines of all cells; levels are lifted.
+fn write_cells(
+    text: &mut [u8],
+    from: usize,
+    receivers: &[u16],
+    levels: &[u32],
+    drainage: &[u32],
+) -> usize
+    requires { ⌜ CellRoom from (now receivers) (now levels) (now drainage) (now text) ⌝ }
+    ensures { λ r. ⌜
+        Wrote from (cellLines (now (receivers .entry)) (map dropped (now (levels .entry))) (now (drainage .entry)) (length (now (receivers .entry))))
+        (now (text .entry)) (now (text .exit)) r
+        ⌝ }
+{
+    let mut to = from;
+    for c in 0..receivers.len() {
+        to = write_cell(
+            text,
+            to,
+            Cell(c as u16),
+            Cell(receivers[c]),
+            levels[c],
+            drainage[c],
+        );
+    }
+    to
+}
+
+// The drainage of a cell that is an outlet, and 0 for any other.
+fn outlet_share(drainage: &[u32], marks: &[u8], c: usize) -> u64
+    requires { ⌜ (c < length (now drainage)) × (c < length (now marks)) ⌝ }
+    ensures { λ r. ⌜ (r ≡ cond (eqb (at (now (marks .entry)) c) 1) (at (now (drainage .entry)) c) 0) × (r < 4294967296) ⌝ }
+{
+    if marks[c] == 1 { drainage[c] as u64 } else { 0 }
+}
+
+// The sum of the outlets' drainage.
+fn outlet_drainage(drainage: &[u32], marks: &[u8]) -> u64
+    requires { ⌜ (length (now drainage) ≤ 4096) × (length (now marks) ≡ length (now drainage)) ⌝ }
+    ensures { λ r. ⌜ r ≡ outletDrainage (now (drainage .entry)) (now (marks .entry)) (length (now (drainage .entry))) ⌝ }
+{
+    let mut total: u64 = 0;
+    for c in 0..drainage.len() {
+        total += outlet_share(drainage, marks, c);
+    }
+    total
+}
+
+// A cell's water as a wider number; the bound is what the sum rests on.
+fn wide(x: u16) -> u64
+    ensures { λ r. ⌜ (r ≡ x) × (r < 65536) ⌝ }
+{
+    x as u64
+}
+
+// The sum of the water.
+fn total_water(water: &[u16]) -> u64
+    requires { ⌜ length (now water) ≤ 4096 ⌝ }
+    ensures { λ r. ⌜ r ≡ sum (now (water .entry)) ⌝ }
+{
+    let mut total: u64 = 0;
+    for c in 0..water.len() {
+        total += wide(water[c]);
+    }
+    total
+}
+
+// The first line: width, height.
+fn write_size(text: &mut [u8], width: u16, height: u16) -> usize
+    requires { ⌜ Room 0 (sizeLine width height) (now text) ⌝ }
+    ensures { λ r. ⌜ Wrote 0 (sizeLine width height) (now (text .entry)) (now (text .exit)) r ⌝ }
+{
+    let second = write_word(text, 0, b"tile ");
+    let third = write_number(text, second, width as u64, b' ');
+    write_number(text, third, height as u64, b'\n')
+}
+
+// The last line: the sum of the outlets' drainage, the sum of the water.
+fn write_sums(text: &mut [u8], from: usize, out: u64, water: u64) -> usize
+    requires { ⌜ Room from (sumsLine out water) (now text) ⌝ }
+    ensures { λ r. ⌜ Wrote from (sumsLine out water) (now (text .entry)) (now (text .exit)) r ⌝ }
+{
+    let second = write_word(text, from, b"out ");
+    let third = write_number(text, second, out, b' ');
+    let fourth = write_word(text, third, b"of ");
+    write_number(text, fourth, water, b'\n')
+}
+
+// The text of a tile, and how many bytes it takes; levels are lifted.
+pub fn write_tile(
+    text: &mut [u8],
+    width: u16,
+    height: u16,
+    receivers: &[u16],
+    levels: &[u32],
+    drainage: &[u32],
+    marks: &[u8],
+    water: &[u16],
+) -> usize
+    requires { ⌜ Printable width height (now receivers) (now levels) (now drainage) (now marks) (now water) (now text) ⌝ }
+    ensures { λ r. ⌜
+        Printed
+        (tileText width height (now (receivers .entry)) (map dropped (now (levels .entry))) (now (drainage .entry)) (now (marks .entry))
+        (now (water .entry)))
+        (now (text .entry)) (now (text .exit)) r
+        ⌝ }
+{
+    let first = write_size(text, width, height);
+    let last = write_cells(text, first, receivers, levels, drainage);
+    let out = outlet_drainage(drainage, marks);
+    let rain = total_water(water);
+    write_sums(text, last, out, rain)
+}
+
+// The text of a refusal, and how many bytes it takes: at most 20 for a number and a place of 16 bits.
+pub fn write_refused(text: &mut [u8], number: u16, place: u16) -> usize
+    requires { ⌜ 20 ≤ length (now text) ⌝ }
+    ensures { λ r. ⌜ Printed (refusedText number place) (now (text .entry)) (now (text .exit)) r ⌝ }
+{
+    let second = write_word(text, 0, b"refused ");
+    let third = write_number(text, second, number as u64, b' ');
+    write_number(text, third, place as u64, b'\n')
+}
