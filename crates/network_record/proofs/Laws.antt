@@ -16,7 +16,6 @@ use Rattle.little.proofs.Sections.{length-sectionOf, section-next, sectionFille
 use Rattle.little.specs.Little.{bytesOf}
 use Rattle.network_record.specs.NetworkRecord.{distances, flowSections, Lifted, networkOfLists, networkRecord}
 use Rattle.network_record.specs.NetworkRecord.{networkTrailer, waterSections, Written}
-use Rattle.rules.proofs.Orders.{from}
 use Rattle.rules.specs.Ground.{dropped}
 
 -- lifted levels written by their bits are the section of the signed ones

@@ -9,7 +9,6 @@ ghost use Rattle.lists.specs.Lent.{overwrite, stored};
 ghost use Rattle.little.specs.Little.{sectionOf};
 ghost use Rattle.network_record.specs.NetworkRecord.{distances, flowSections, Lifted, networkOfLists};
 ghost use Rattle.network_record.specs.NetworkRecord.{networkRecord, networkTrailer, waterSections, Written};
-ghost use Rattle.rules.proofs.Orders.{from};
 ghost use Rattle.rules.specs.Carving.{receivers};
 ghost use Rattle.rules.specs.Ground.{dropped};
 ghost use Rattle.rules.specs.Network.{drainage, order, wet};

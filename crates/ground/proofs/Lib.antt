@@ -1,0 +1,5 @@
+pub mod Judging
+pub mod Counting
+pub mod RecordCells
+pub mod SizedLists
+pub mod Acceptance

@@ -1,0 +1,29 @@
+-- `ground::search::is_bad_in_list` meets its contract: an entry that fails the test of the range is a bad height.
+-- Assumes nothing.
+use lib.IntN.{pos}
+use lib.ListN.{getD}
+use mir.Facts.{toZ-ofZ}
+use mir.Syntax.{w32}
+use mir.Val.{SFits}
+use borrow.Author.Needs.{needs}
+use Rattle.ground.proofs.search.is_bad_in_list.Statement.{statement}
+use Rattle.ground.proofs.search.is_bad_in_list.Tie as tie
+
+mul-in-range : tie.Need-mul-in-range
+mul-in-range c = search needs
+
+shared-slice-copy-out-in-range : tie.Need-shared-slice-copy-out-in-range
+shared-slice-copy-out-in-range c = search needs
+
+in-range-requires : tie.Need-in-range-requires
+in-range-requires c κs = search needs
+
+returns : tie.Need-returns
+returns c =
+    let a = c .before .before .args in
+    let f : SFits w32 (getD (a .list .now) (a .cell) (pos 0)) = search needs in
+    rw (c .in-range .ensures, toZ-ofZ f)
+
+pub is-bad-in-list-spec : {M : Type 1} → statement M
+is-bad-in-list-spec =
+    tie.close (tie.spec mul-in-range shared-slice-copy-out-in-range in-range-requires returns)

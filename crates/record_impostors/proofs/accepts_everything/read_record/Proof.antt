@@ -1,0 +1,11 @@
+-- `record_impostors::accepts_everything::read_record` meets its contract: the answer is always the same, and nothing is stored.
+-- Assumes nothing.
+use mathlib.Core.Path.{refl}
+use Rattle.record_impostors.proofs.accepts_everything.read_record.Statement.{statement}
+use Rattle.record_impostors.proofs.accepts_everything.read_record.Tie as tie
+
+returns : tie.Need-returns
+returns c = (refl, (refl, (refl, refl)))
+
+pub read-record-spec : {M : Type 1} → statement M
+read-record-spec = tie.close (tie.spec returns)

@@ -1,0 +1,5 @@
+pub mod Sections
+pub mod Reading
+pub mod WhatWasWritten
+pub mod WhatWasRead
+pub mod RoundTrips
