@@ -14,7 +14,6 @@ use Rattle.lists.proofs.Fill.{filled-length}
 use Rattle.lists.proofs.Ranges.{keep-append, keep-same, mem-upto, range-split}
 use Rattle.lists.specs.Lists.{at, filled, keep, range, upto, _∈_}
 use Rattle.rules.proofs.FirstReceivers.{singularOf-below}
-use Rattle.rules.specs.Carving.{receivers}
 use Rattle.rules.specs.FirstWays.{basin, firstReceiver, singular, singularOf}
 use Rattle.rules.specs.Land.{Land}
 use Rattle.tiles.specs.Tile.{Tile, tileLand}

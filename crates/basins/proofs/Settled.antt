@@ -3,19 +3,17 @@
 use mathlib.Core.Bool.{false}
 use mathlib.Core.List.{List}
 use mathlib.Core.Logic.{inl, inr, _⊎_}
-use mathlib.Core.Option.{some}
 use mathlib.Core.Path.{ap, refl, sym, _∙_, _≡_}
 use Prim.Native.Nat.{suc, zero, ℕ, _+_, _-_, _<_, _≤_}
 use native.Mathlib.Omega.{arith}
 use lib.ListN.{length}
-use Rattle.basins.proofs.Rounds.{Leads, repeat-add, turned, Turned}
+use Rattle.basins.proofs.Rounds.{Leads, repeat-add, Turned, turned}
 use Rattle.basins.specs.Jumps.{anyMoved, FirstReceivers, jumped, Within}
 use Rattle.lists.proofs.Entries.{filled-by}
 use Rattle.lists.proofs.Repeats.{repeat-fixed}
 use Rattle.lists.specs.Lists.{at, filled, repeat}
 use Rattle.rules.proofs.FirstReceivers.{Falls, first-below, first-falls, rank, rank-falls, singularOf-first, singularOf-self}
 use Rattle.rules.proofs.FirstReceivers.{singularOf-singular}
-use Rattle.rules.proofs.Trees.{leads}
 use Rattle.rules.specs.FirstWays.{firstReceiver, singularOf}
 use Rattle.rules.specs.Land.{Land}
 
@@ -64,7 +62,7 @@ pub record Leading (n : ℕ) (old entries : List ℕ) (steps : ℕ) : Type 0 whe
   pub leads : (L : Land) → FirstReceivers L n old → Leads (firstReceiver L) n steps entries
   pub past : (c : ℕ) → n ≤ c → at entries c ≡ at old c
 
-pub first-within : (L : Land) (n : ℕ) (entries : List ℕ) → FirstReceivers L n entries → Within n entries
+first-within : (L : Land) (n : ℕ) (entries : List ℕ) → FirstReceivers L n entries → Within n entries
 first-within L n entries F c h =
     let e : at entries c ≡ firstReceiver L c = F .firsts c h in
     let q : L .cells ≡ n = F .cells in

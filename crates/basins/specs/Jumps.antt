@@ -7,7 +7,6 @@ use Prim.Native.Nat.{suc, zero, ℕ, _<_, _≤_}
 use lib.Dec.{eqb}
 use lib.ListN.{length, set}
 use Rattle.lists.specs.Lists.{at, keep, upto}
-use Rattle.rules.specs.Carving.{receivers}
 use Rattle.rules.specs.FirstWays.{firstReceiver}
 use Rattle.rules.specs.Land.{Land}
 

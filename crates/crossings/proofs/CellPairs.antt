@@ -27,7 +27,7 @@ module _ (L : Land) (few : L .cells ≤ 4096) where
   keysAt : ℕ → List ℕ
   keysAt a = map (keyOf L) (crossingsAt L a)
 
-  -- a greater neighbour of a in another basin
+  -- the greater neighbours of a in other basins
   abbrev greater : ℕ → List ℕ
   greater a = keep (divides L a) (neighbours L a)
 

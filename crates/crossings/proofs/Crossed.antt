@@ -1,4 +1,4 @@
--- The keys that are listed are those of the land's crossings, in the order of rule 3's list; they ascend by their pairs of cells.
+-- The keys that are listed are those of the land's crossings, in the order of rule 3's list.
 -- Assumes nothing.
 use mathlib.Core.Bool.{Bool, not, _&&_}
 use mathlib.Core.List.{List, map, map-map}

@@ -52,5 +52,7 @@ module _ (L : Land) where
     pub key-cells : (k : ℕ) (x : Crossing) → x ∈ crossings L → k ≡ keyOf L x → (lesserCell k ≡ x .lesser) × (greaterCell k ≡ x .greater)
     key-cells k x m e =
         let s = small x m in
-        let h = crossingHeight L x in
-        (ap lesserCell e ∙ key-lesser h (x .lesser) (x .greater) (s .0) (s .1), ap greaterCell e ∙ key-greater h (x .lesser) (x .greater) (s .1))
+        let h = crossingHeight L x in (
+          ap lesserCell e ∙ key-lesser h (x .lesser) (x .greater) (s .0) (s .1),
+          ap greaterCell e ∙ key-greater h (x .lesser) (x .greater) (s .1),
+        )

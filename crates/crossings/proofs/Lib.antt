@@ -3,3 +3,4 @@ pub mod Sides
 pub mod Adding
 pub mod Crossed
 pub mod CellPairs
+pub mod ListedKeys

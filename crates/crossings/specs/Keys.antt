@@ -3,9 +3,8 @@
 -- Assumes nothing.
 use mathlib.Core.List.{List, map}
 use Prim.Native.Nat.{ℕ, _%_, _*_, _+_, _/_}
-use Rattle.lists.proofs.Sorting.{Ascending}
+use Rattle.lists.proofs.Sorting.{AscendingBy}
 use Rattle.lists.specs.Lists.{_∈_}
-use Rattle.rules.proofs.Trees.{only}
 use Rattle.rules.specs.Land.{Land}
 use Rattle.rules.specs.Passes.{Crossing, crossingHeight, crossings}
 
@@ -20,7 +19,7 @@ lesserCell k = k / 4096 % 4096
 abbrev pub greaterCell : ℕ → ℕ
 greaterCell k = k % 4096
 
--- both of them in one number
+-- both of them in one number, by which keys ascend as they are listed
 abbrev pub cellPair : ℕ → ℕ
 cellPair k = k % 16777216
 
@@ -32,4 +31,4 @@ keyOf L x = key (crossingHeight L x) (x .lesser) (x .greater)
 pub record Listed (L : Land) (keys : List ℕ) : Type 0 where
   pub only : (k : ℕ) → k ∈ keys → k ∈ map (keyOf L) (crossings L)
   pub all : (k : ℕ) → k ∈ map (keyOf L) (crossings L) → k ∈ keys
-  pub ascending : Ascending keys
+  pub ascending : AscendingBy (λ k. k) keys

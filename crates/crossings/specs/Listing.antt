@@ -8,12 +8,9 @@ use lib.Dec.{eqb, ltb}
 use lib.ListN.{length}
 use lib.Seq.{sets}
 use Rattle.crossings.specs.Keys.{key}
-use Rattle.lists.proofs.Counts.{count}
 use Rattle.lists.specs.Lent.{overwrite}
 use Rattle.lists.specs.Lists.{at, flat, keep, upto}
-use Rattle.rules.proofs.Orders.{after}
 use Rattle.rules.specs.Land.{shareSide}
-use Rattle.rules.specs.Samples.{tile}
 use Rattle.tiles.specs.Tile.{Tile}
 
 -- the key of two cells: the height of a crossing is the greater of the two

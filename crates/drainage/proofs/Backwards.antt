@@ -1,31 +1,29 @@
 -- Giving backwards through the order: once all cells behind a place have given, every cell has its own water and theirs.
 -- Assumes nothing.
-use mathlib.Core.Bool.{Bool, false, true}
+use mathlib.Core.Bool.{false, true}
 use mathlib.Core.List.{List, List·Memᴰ·head as in-head, Memᴰ·append-right as in-right, _++_, _∷_}
 use mathlib.Core.Logic.{inl, inr, _⊎_}
 use mathlib.Core.Path.{ap, refl, subst, sym, _∙_, _≡_}
 use Prim.Native.Nat.{suc, ℕ, _*_, _+_, _-_, _<_, _≤_}
 use native.Mathlib.Omega.{arith}
 use lib.Dec.{eqb}
-use lib.IntN.{pos}
 use lib.ListN.{drop, drop-of-length-le, length, length-set, set, take, take-append-drop}
 use lib.Seq.{drop-cons, getD-set-other, getD-set-same, getD-take, split-at}
-use borrow.Author.Tests.{eqb-false, eqb-true}
+use borrow.Author.Tests.{eq-eqb, eqb-false, eqb-true, ne-eqb}
+use Rattle.drainage.proofs.OwnReceivers.{order-full, own-outlet, receiver-cell}
 use Rattle.drainage.specs.Giving.{given, Ordered}
-use Rattle.lists.proofs.Entries.{filled-again, filled-at, filled-by, filled-same, keep-all, map-same}
+use Rattle.lists.proofs.Entries.{filled-again, filled-at, filled-by, filled-same, map-same}
 use Rattle.lists.proofs.Members.{mem-keep}
-use Rattle.lists.proofs.Ranges.{length-range, mem-upto}
+use Rattle.lists.proofs.Ranges.{mem-upto}
 use Rattle.lists.proofs.Tests.{eq-or-ne, is, isnt, Known, known}
 use Rattle.lists.specs.Lists.{at, filled, keep, sum, upto, _∈_}
 use Rattle.rules.proofs.Backward.{acc, acc-behind, acc-gives, acc-le, acc-none, acc-order, acc-other, acc-outlet, total}
 use Rattle.rules.proofs.Backward.{total-drainage, total-le}
-use Rattle.rules.proofs.Orders.{order-length, order-mem, runs-on}
-use Rattle.rules.proofs.Steps.{once-only}
-use Rattle.rules.specs.Carving.{receivers}
+use Rattle.rules.proofs.Orders.{order-mem}
 use Rattle.rules.specs.FirstWays.{solidCells}
 use Rattle.rules.specs.Land.{Land}
 use Rattle.rules.specs.Network.{drainage, order, through}
-use Rattle.rules.specs.Way.{done, Drains, more, Runs}
+use Rattle.rules.specs.Way.{Drains, Runs}
 
 -- only the water on the land counts
 drainage-same : (L : Land) (r a b : List ℕ) (c : ℕ) → ((x : ℕ) → x < L .cells → at a x ≡ at b x) → drainage L a r c ≡ drainage L b r c
@@ -60,12 +58,8 @@ module _ (L : Land) (r : List ℕ) (n : ℕ) (ordered receivers : List ℕ) (G :
     pub has : (x : ℕ) → x < n → at d x ≡ acc L r D water (drop i O) x
     pub past : (x : ℕ) → n ≤ x → at d x ≡ at old x
 
-  order-full : length O ≡ n
-  unfolding solidCells
-  order-full =
-      order-length L r D ∙ ap length
-      (keep-all (L .solid) (upto (L .cells)) (λ x m. G .whole x (subst (λ (z : ℕ). x < z) (G .cells) (mem-upto m))))
-      ∙ length-range (L .cells) 0 ∙ G .cells
+  full : length O ≡ n
+  full = order-full L r D n (G .cells) (G .whole)
 
   runs : (c : ℕ) → c < n → (j : ℕ) × Runs L (at r) c j
   runs c h = D .ways c (let e = G .cells in omega arith) (G .whole c h)
@@ -74,7 +68,7 @@ module _ (L : Land) (r : List ℕ) (n : ℕ) (ordered receivers : List ℕ) (G :
   given-none =
       record {
         size = refl;
-        has = λ x h. sym (ap (λ (S : List ℕ). acc L r D water S x) (drop-of-length-le O {i = n} (let e = order-full in omega arith))
+        has = λ x h. sym (ap (λ (S : List ℕ). acc L r D water S x) (drop-of-length-le O {i = n} (let e = full in omega arith))
             ∙ acc-none L r D water x);
         past = λ x h. refl;
       }
@@ -97,13 +91,13 @@ module _ (L : Land) (r : List ℕ) (n : ℕ) (ordered receivers : List ℕ) (G :
 
     split : O ≡ take (i - 1) O ++ (c ∷ drop i O)
     split =
-        let e = order-full in let f : suc (i - 1) ≡ i = omega arith in
+        let e = full in let f : suc (i - 1) ≡ i = omega arith in
         split-at O (i - 1) 0 (omega arith) ∙ ap (λ (m : ℕ). take (i - 1) O ++ (at O (i - 1) ∷ drop m O)) f
         ∙ ap (λ (z : ℕ). take (i - 1) O ++ (z ∷ drop i O)) (sym c-is)
 
     behind : drop (i - 1) O ≡ c ∷ drop i O
     behind =
-        let e = order-full in let f : suc (i - 1) ≡ i = omega arith in
+        let e = full in let f : suc (i - 1) ≡ i = omega arith in
         drop-cons O (i - 1) 0 (omega arith) ∙ ap (λ (m : ℕ). at O (i - 1) ∷ drop m O) f ∙ ap (λ (z : ℕ). z ∷ drop i O) (sym c-is)
 
     pub cell-on : c < n
@@ -115,31 +109,17 @@ module _ (L : Land) (r : List ℕ) (n : ℕ) (ordered receivers : List ℕ) (G :
     to-is : to ≡ at r c
     to-is = G .receivers-are c cell-on
 
-    next-on : {j : ℕ} → Runs L (at r) c j → at r c < L .cells
-    next-on (done h o) = subst (λ (z : ℕ). z < L .cells) (sym (D .own c h o)) h
-    next-on (more h s o q) = runs-on L r q
-
     pub receiver-on : to < n
-    receiver-on = let a = next-on (runs c cell-on .1) in let b = to-is in let q = G .cells in omega arith
+    receiver-on = let a = receiver-cell L r D (runs c cell-on .1) in let b = to-is in let q = G .cells in omega arith
 
     c-has : at d c ≡ total L r D water c
     c-has = M .has c cell-on ∙ acc-behind L r D water (take (i - 1) O) (drop i O) (runs c cell-on .1) split
 
     outlet-if : to ≡ c → L .outlet c ≡ true
-    outlet-if q = go (runs c cell-on .1)
-      where
-        go : {j : ℕ} → Runs L (at r) c j → L .outlet c ≡ true
-        go (done h o) = o
-        go (more {j = j} h s o z) =
-            absurd
-            (let y : suc j ≡ j = once-only L (at r) (more h s o z) (subst (λ (a : ℕ). Runs L (at r) a j) (sym to-is ∙ q) z) in omega arith)
+    outlet-if q = sym (own-outlet L r D (runs c cell-on .1)) ∙ eq-eqb (at r c) c (sym to-is ∙ q)
 
     inner-if : (to ≡ c → ⊥) → L .outlet c ≡ false
-    inner-if q = go (L .outlet c) refl
-      where
-        go : (b : Bool) → L .outlet c ≡ b → b ≡ false
-        go true o = absurd (q (to-is ∙ D .own c (let h = cell-on in let z = G .cells in omega arith) o))
-        go false o = refl
+    inner-if q = sym (own-outlet L r D (runs c cell-on .1)) ∙ ne-eqb (at r c) c (λ e. q (to-is ∙ e))
 
     sum-is : (to ≡ c → ⊥) → at d to + at d c ≡ acc L r D water (drop (i - 1) O) to
     sum-is q =

@@ -1,3 +1,4 @@
+pub mod OwnReceivers
 pub mod Backwards
 pub mod Wetness
 pub mod Stages

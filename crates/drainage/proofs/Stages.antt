@@ -6,14 +6,11 @@ use Prim.Native.Nat.{ℕ, _+_, _<_, _≤_}
 use native.Mathlib.Omega.{arith}
 use lib.ListN.{length, length-append, List·getD-append, take}
 use lib.Seq.{take-at}
+use Rattle.drainage.proofs.OwnReceivers.{order-full}
 use Rattle.drainage.specs.Giving.{Levelled, Ordered}
-use Rattle.lists.proofs.Entries.{filled-at, keep-all}
+use Rattle.lists.proofs.Entries.{filled-at}
 use Rattle.lists.proofs.Fill.{filled-length}
-use Rattle.lists.proofs.Ranges.{length-range}
-use Rattle.lists.specs.Lists.{at, filled, upto}
-use Rattle.rules.proofs.Orders.{order-length}
-use Rattle.rules.specs.Carving.{receivers}
-use Rattle.rules.specs.FirstWays.{solidCells}
+use Rattle.lists.specs.Lists.{at, filled}
 use Rattle.rules.specs.Land.{Land}
 use Rattle.rules.specs.Network.{level, order}
 use Rattle.rules.specs.Way.{Drains}
@@ -33,9 +30,8 @@ module _ (w : ℕ) (heights marks r : List ℕ) (T : Tile w heights marks) (D : 
   receivers-at : (c : ℕ) → c < n → at receivers c ≡ at r c
   receivers-at c h = ap (λ (z : List ℕ). at z c) e ∙ List·getD-append r past 0 c (let b = D .full in omega arith)
 
-  order-full : length (order L r) ≡ n
-  unfolding solidCells
-  order-full = order-length L r D ∙ ap length (keep-all (L .solid) (upto n) (λ x m. refl)) ∙ length-range n 0
+  full : length (order L r) ≡ n
+  full = order-full L r D n refl (λ c h. refl)
 
   pub tile-ordered : (ordered rest : List ℕ) → ordered ≡ order L r ++ rest → Ordered L r n ordered receivers
   tile-ordered ordered rest f =
@@ -46,10 +42,10 @@ module _ (w : ℕ) (heights marks r : List ℕ) (T : Tile w heights marks) (D : 
         drains = D;
         fits-order =
             let a : length ordered ≡ length (order L r) + length rest = ap length f ∙ length-append (order L r) rest in
-            let b = order-full in
+            let b = full in
             omega arith;
         fits-receivers = receivers-fit;
-        order-is = ap (take n) f ∙ take-at (order L r) rest n order-full;
+        order-is = ap (take n) f ∙ take-at (order L r) rest n full;
         receivers-are = receivers-at;
       }
 

@@ -7,7 +7,6 @@ use Prim.Native.Nat.{ℕ, _+_, _<_, _≤_}
 use lib.Dec.{eqb}
 use lib.ListN.{length, set, take}
 use Rattle.lists.specs.Lists.{at}
-use Rattle.rules.specs.Carving.{receiver, receivers}
 use Rattle.rules.specs.Land.{Land}
 use Rattle.rules.specs.Network.{level, order}
 use Rattle.rules.specs.Way.{Drains}

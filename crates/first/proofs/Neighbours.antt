@@ -10,7 +10,7 @@ use native.Mathlib.Nat.{mod-lt}
 use native.Mathlib.Omega.{arith}
 use lib.Dec.{leb, ltb}
 use borrow.Author.Tests.{le-leb, leb-true, lt-ltb, ltb-true}
-use Rattle.lists.proofs.GridSides.{downward, in-column, in-row, leftward, right-on, rightward, Sharing, sharing, Towards}
+use Rattle.lists.proofs.GridSides.{downward, in-column, in-row, leftward, right-on, rightward, sharing, Sharing, Towards}
 use Rattle.lists.proofs.GridSides.{towards-column, towards-row, upward}
 use Rattle.lists.proofs.Members.{keep-mem, mem-keep}
 use Rattle.lists.proofs.Ranges.{mem-upto, upto-mem}
@@ -36,7 +36,7 @@ sorted-one true k x l h s r = cons (h refl) (s refl)
 sorted-one false k x l h s r = r
 
 -- sharing a side, by number
-side-towards : (w a b : ℕ) → 0 < w → Side w a b → Towards w a b
+pub side-towards : (w a b : ℕ) → 0 < w → Side w a b → Towards w a b
 side-towards w a b h (row e f) = towards-row w a b h e f
 side-towards w a b h (column e f) = towards-column w a b e f
 

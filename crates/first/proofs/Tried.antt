@@ -72,11 +72,11 @@ module _ (w : ℕ) (heights marks : List ℕ) (T : Tile w heights marks) (c : �
   abbrev L : Land
   L = tileLand w heights marks
 
-  abbrev lowers-of : List ℕ
-  lowers-of = four w (length heights) c
+  abbrev around : List ℕ
+  around = four w (length heights) c
 
   -- trying goes through the four
-  tries-fold : lowest heights w c ≡ fold (better (at heights) c) c lowers-of
+  tries-fold : lowest heights w c ≡ fold (better (at heights) c) c around
   unfolding lowest
   tries-fold =
       sym (fold-one (at heights) c (leb w c) (c - w) c (lefts w n c ++ (rights w n c ++ lowers w n c))
@@ -104,7 +104,7 @@ module _ (w : ℕ) (heights marks : List ℕ) (T : Tile w heights marks) (c : �
   pub lowest-first : L .outlet c ≡ false → lowest heights w c ≡ firstReceiver L c
   unfolding firstReceiver lowerNeighbours neighbours
   lowest-first o =
-      tries-fold ∙ fold-keep (at heights) c lowers-of c (omega arith) ∙ sym (steepest-fold L c (λ a b. refl) lowers-of)
+      tries-fold ∙ fold-keep (at heights) c around c (omega arith) ∙ sym (steepest-fold L c (λ a b. refl) around)
       ∙ ap (λ (l : List ℕ). steepestOf L c (keep (λ d. ltb (at heights d) (at heights c)) l))
       (sym (beside-is-four w (length heights) c (T .wide) (T .whole) on))
       ∙ sym (rw o)

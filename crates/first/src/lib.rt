@@ -1,9 +1,11 @@
 // Rule 1, first receivers: a cell's lowest neighbour that is strictly lower than itself; of equally low ones, the least cell number.
 // The four neighbours are tried by ascending number, each against the best so far, and the first best is the cell itself:
 // what is left where none is lower is the cell, and it is a pit.
+ghost use mathlib.Core.Bool.{cond};
 ghost use mathlib.Core.List.{List};
 ghost use mathlib.Core.Path.{_≡_};
-ghost use Prim.Native.Nat.{ℕ, _+_, _<_, _≤_};
+ghost use Prim.Native.Nat.{ℕ, _%_, _+_, _<_, _≤_};
+ghost use lib.Dec.{ltb};
 ghost use lib.ListN.{length};
 ghost use Rattle.lists.specs.Lists.{filled};
 ghost use Rattle.rules.specs.FirstWays.{firstReceiver};
@@ -75,30 +77,37 @@ fn try_down(heights: &[u32], w: usize, c: Cell, best: Cell) -> Cell
     }
 }
 
-// The lowest of a cell and its neighbours: the cell itself where none is strictly lower.
-fn lowest(w: usize, heights: &[u32], c: Cell) -> Cell
+// The lowest of a cell and its neighbours: the cell itself where none is strictly lower. The cell is in column col.
+fn lowest(w: usize, heights: &[u32], col: usize, c: Cell) -> Cell
     requires { ⌜ ((marks : List ℕ) × Tile w (now heights) marks) ⌝ }
-    requires { ⌜ c .0 < length (now heights) ⌝ }
+    requires { ⌜ (c .0 < length (now heights)) × (col ≡ c .0 % w) ⌝ }
     ensures { λ r. ⌜ (r .0 ≡ S.lowest (now (heights .entry)) w (c .0)) × (r .0 < length (now (heights .entry))) ⌝ }
 {
-    let col = c.0 as usize % w;
     let after_up = try_up(heights, w, c, c);
     let after_left = try_left(heights, col, c, after_up);
     let after_right = try_right(heights, w, col, c, after_left);
     try_down(heights, w, c, after_right)
 }
 
-// The first receiver of a cell; an outlet's and a pit's is written as its own number.
-fn first_receiver(w: usize, heights: &[u32], marks: &[u8], c: Cell) -> Cell
+// The first receiver of a cell in column col; an outlet's and a pit's is written as its own number.
+fn first_receiver(w: usize, heights: &[u32], marks: &[u8], col: usize, c: Cell) -> Cell
     requires { ⌜ Tile w (now heights) (now marks) ⌝ }
-    requires { ⌜ c .0 < length (now heights) ⌝ }
+    requires { ⌜ (c .0 < length (now heights)) × (col ≡ c .0 % w) ⌝ }
     ensures { λ r. ⌜ r .0 ≡ firstReceiver (tileLand w (now (heights .entry)) (now (marks .entry))) (c .0) ⌝ }
 {
     if is_outlet(marks, c) {
         c
     } else {
-        lowest(w, heights, c)
+        lowest(w, heights, col, c)
     }
+}
+
+// The column of the next cell: one more, or 0 where a row ends. It is carried along, since dividing by a width is slow.
+pub fn next_column(w: usize, col: usize) -> usize
+    requires { ⌜ (col < w) × (w ≤ 64) ⌝ }
+    ensures { λ r. ⌜ r ≡ cond (ltb (col + 1) w) (col + 1) 0 ⌝ }
+{
+    if col + 1 < w { col + 1 } else { 0 }
 }
 
 // The first receivers of all cells.
@@ -107,12 +116,15 @@ pub fn first_receivers(w: usize, heights: &[u32], marks: &[u8], receivers: &mut 
     requires { ⌜ length (now heights) ≤ length (now receivers) ⌝ }
     ensures { λ _. ⌜
         now (receivers .exit)
-        ≡ filled (firstReceiver (tileLand w (now (heights .entry)) (now (marks .entry)))) (length (now (heights .entry))) (now (receivers .entry))
+        ≡ filled (firstReceiver (tileLand w (now (heights .entry)) (now (marks .entry)))) (length (now (heights .entry)))
+        (now (receivers .entry))
         ⌝ }
 {
+    let mut col = 0;
     let mut c = 0;
     while c < heights.len() {
-        receivers[c] = first_receiver(w, heights, marks, Cell(c as u16)).0;
+        receivers[c] = first_receiver(w, heights, marks, col, Cell(c as u16)).0;
+        col = next_column(w, col);
         c += 1;
     }
 }

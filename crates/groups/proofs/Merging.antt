@@ -69,7 +69,10 @@ module _ (g : List ℕ) (d : Down g) (lo hi : ℕ) (l : lo ≤ hi) (h : hi < len
       (λ y n e. ap (merged lo hi) (root-self g d y e) ∙ stays y n (eq-or-ne y lo))
       (λ e. ap (merged lo hi) (root-self g d hi eh) ∙ merged-right lo hi ∙ min-eq-left l ∙ e)
       (λ y n. ap (merged lo hi) (root-step g d y))
-      (ap (merged lo hi) (root-self g d lo el) ∙ merged-left lo hi ∙ sym (merged-right lo hi) ∙ ap (merged lo hi) (sym (root-self g d hi eh)))
+      (ap (merged lo hi) (root-self g d lo el)
+      ∙ merged-left lo hi
+      ∙ sym (merged-right lo hi)
+      ∙ ap (merged lo hi) (sym (root-self g d hi eh)))
       x
       ∙ ap (λ (n : ℕ). merged n hi (rootOf g x)) (sym (root-self g d lo el))
       ∙ ap (λ (n : ℕ). merged (rootOf g lo) n (rootOf g x)) (sym (root-self g d hi eh))

@@ -14,9 +14,8 @@ use Rattle.groups.specs.Groups.{Down, rootOf}
 use Rattle.lists.proofs.Fill.{put-next}
 use Rattle.lists.proofs.Ranges.{at-upto, length-range, range-split}
 use Rattle.lists.proofs.Repeats.{repeat-fixed}
-use Rattle.lists.proofs.Tests.{is, isnt, known, Known, lt-or-ge}
+use Rattle.lists.proofs.Tests.{is, isnt, Known, known, lt-or-ge}
 use Rattle.lists.specs.Lists.{at, repeat, upto}
-use Rattle.rules.specs.Way.{step}
 
 module _ (g : List ℕ) (d : Down g) where
   -- b or more steps from b end at one place, which names itself

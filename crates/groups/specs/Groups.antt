@@ -8,9 +8,7 @@ use Prim.Native.Nat.{min, ℕ, _<_, _≤_}
 use lib.Dec.{eqb}
 use lib.ListN.{length}
 use Rattle.lists.specs.Lists.{at, repeat}
-use Rattle.rules.proofs.Labels.{chained}
 use Rattle.rules.specs.Chain.{Chain, Edges}
-use Rattle.rules.specs.Links.{down}
 use Rattle.rules.specs.Passes.{node}
 
 -- no entry is above its own place

@@ -1,36 +1,54 @@
 -- The four bits of a mask say for which neighbours the relation holds.
 -- Assumes nothing.
-use mathlib.Core.Bool.{Bool, false, true, _&&_}
+use mathlib.Core.Bool.{Bool, false, not, true, _&&_}
 use mathlib.Core.List.{List}
-use mathlib.Core.Path.{ap, refl, _∙_, _≡_}
+use mathlib.Core.Path.{ap, refl, sym, _∙_, _≡_}
 use Prim.Native.Nat.{ℕ, _%_, _+_, _-_, _/_, _<_}
 use native.Mathlib.Omega.{arith}
 use lib.Dec.{eqb, leb, ltb}
-use borrow.Author.Tests.{leb-true, ltb-true}
+use borrow.Author.Tests.{leb-true, ltb-true, not-true}
 use Rattle.lists.proofs.GridSides.{downward, leftward, right-on, rightward, Towards, upward}
+use Rattle.lists.proofs.Tests.{and-left, and-right}
 use Rattle.lists.specs.Lists.{at}
-use Rattle.rules.specs.Links.{down, up}
 use Rattle.walk.specs.Masks.{fourBits, maskOf, Masks}
 
--- each bit of a sum of weights
-pub bits : (a b c d : Bool) → (eqb (fourBits a b c d % 2) 1 ≡ a) × (eqb (fourBits a b c d / 2 % 2) 1 ≡ b)
-    × (eqb (fourBits a b c d / 4 % 2) 1 ≡ c) × (eqb (fourBits a b c d / 8 % 2) 1 ≡ d)
-bits true true true true = (refl, refl, refl, refl)
-bits true true true false = (refl, refl, refl, refl)
-bits true true false true = (refl, refl, refl, refl)
-bits true true false false = (refl, refl, refl, refl)
-bits true false true true = (refl, refl, refl, refl)
-bits true false true false = (refl, refl, refl, refl)
-bits true false false true = (refl, refl, refl, refl)
-bits true false false false = (refl, refl, refl, refl)
-bits false true true true = (refl, refl, refl, refl)
-bits false true true false = (refl, refl, refl, refl)
-bits false true false true = (refl, refl, refl, refl)
-bits false true false false = (refl, refl, refl, refl)
-bits false false true true = (refl, refl, refl, refl)
-bits false false true false = (refl, refl, refl, refl)
-bits false false false true = (refl, refl, refl, refl)
-bits false false false false = (refl, refl, refl, refl)
+-- a test that passes for both answers, and so for all sixteen masks
+abbrev pub every : (Bool → Bool) → Bool
+every p = p true && p false
+
+every-is : (p : Bool → Bool) → every p ≡ true → (b : Bool) → p b ≡ true
+every-is p e true = and-left (p true) (p false) e
+every-is p e false = and-right (p true) (p false) e
+
+pub tried : (p : Bool → Bool → Bool → Bool → Bool) → every (λ u. every (λ l. every (λ r. every (λ d. p u l r d)))) ≡ true
+    → (u l r d : Bool) → p u l r d ≡ true
+tried p e u l r d =
+    every-is (λ d. p u l r d)
+    (every-is (λ r. every (λ d. p u l r d))
+    (every-is (λ l. every (λ r. every (λ d. p u l r d)))
+    (every-is (λ u. every (λ l. every (λ r. every (λ d. p u l r d)))) e u) l) r) d
+
+abbrev same : Bool → Bool → Bool
+same true b = b
+same false b = not b
+
+same-is : (a b : Bool) → same a b ≡ true → a ≡ b
+same-is true b e = sym e
+same-is false b e = sym (not-true b e)
+
+-- each bit of a mask
+bits : (u l r d : Bool) → (eqb (fourBits u l r d % 2) 1 ≡ u) × (eqb (fourBits u l r d / 2 % 2) 1 ≡ l)
+    × (eqb (fourBits u l r d / 4 % 2) 1 ≡ r) × (eqb (fourBits u l r d / 8 % 2) 1 ≡ d)
+bits u l r d = (
+  same-is _ _ (tried (λ u l r d. same (eqb (fourBits u l r d % 2) 1) u) refl u l r d),
+  same-is _ _ (tried (λ u l r d. same (eqb (fourBits u l r d / 2 % 2) 1) l) refl u l r d),
+  same-is _ _ (tried (λ u l r d. same (eqb (fourBits u l r d / 4 % 2) 1) r) refl u l r d),
+  same-is _ _ (tried (λ u l r d. same (eqb (fourBits u l r d / 8 % 2) 1) d) refl u l r d),
+)
+
+-- four bits are less than 16
+pub bits-small : (u l r d : Bool) → fourBits u l r d < 16
+bits-small u l r d = ltb-true _ _ (tried (λ u l r d. ltb (fourBits u l r d) 16) refl u l r d)
 
 -- the bits of cell c's mask m
 pub record Bits (w n : ℕ) (E : ℕ → ℕ → Bool) (m c : ℕ) : Type 0 where
@@ -52,7 +70,7 @@ masks-bits w n E links M c h =
     }
 
 -- relations that agree between neighbours have the same masks
-and-same : (t e f : Bool) → (t ≡ true → e ≡ f) → t && e ≡ t && f
+pub and-same : (t e f : Bool) → (t ≡ true → e ≡ f) → t && e ≡ t && f
 and-same true e f h = h refl
 and-same false e f h = refl
 

@@ -11,7 +11,6 @@ use lib.Seq.{getD-set-other, getD-set-same}
 use Rattle.lists.proofs.Entries.{filled-by}
 use Rattle.lists.proofs.Tests.{eq-or-ne}
 use Rattle.lists.specs.Lists.{at, filled, _∈_}
-use Rattle.rules.proofs.Trees.{only}
 use Rattle.walk.proofs.Pushes.{length-put}
 use Rattle.walk.specs.Walk.{put}
 
@@ -44,7 +43,7 @@ put-in g (d ∷ ds) l x m h = go (eq-or-ne x d) (in-cases m) (λ i. put-in g ds 
     go (inr p) (inl q) ih = absurd (p q)
     go (inr p) (inr i) ih = getD-set-other (put g ds l) d x (g d) 0 p ∙ ih i
 
-pub put-out : (g : ℕ → ℕ) (ds l : List ℕ) (x : ℕ) → (x ∈ ds → ⊥) → at (put g ds l) x ≡ at l x
+put-out : (g : ℕ → ℕ) (ds l : List ℕ) (x : ℕ) → (x ∈ ds → ⊥) → at (put g ds l) x ≡ at l x
 put-out g [] l x n = refl
 put-out g (d ∷ ds) l x n = getD-set-other (put g ds l) d x (g d) 0 (λ e. n (in-head e)) ∙ put-out g ds l x (λ m. n (in-tail m))
 

@@ -11,12 +11,10 @@ use lib.ListN.{drop, length, length-append, length-drop, length-set, set, take, 
 use lib.Seq.{drop-at, length-take-le, set-split, take-append-le, take-take}
 use borrow.Author.Tests.{eq-eqb, eqb-true, ne-eqb}
 use Rattle.lists.proofs.Counts.{count-all}
-use Rattle.lists.proofs.GridSides.{right-on}
 use Rattle.lists.proofs.Ranges.{length-range}
 use Rattle.lists.proofs.Tests.{or-right}
 use Rattle.lists.specs.Lists.{at, keep, range, upto}
-use Rattle.rules.specs.Carving.{receiver}
-use Rattle.walk.specs.Walk.{downOf, Fitting, leftOf, Lent, lent, marked, offered, outletAt, Pushed, put, rightOf, upOf}
+use Rattle.walk.specs.Walk.{downOf, Fitting, leftOf, lent, Lent, marked, offered, outletAt, Pushed, put, rightOf, upOf}
 use Rattle.walk.specs.Walk.{upstream}
 
 pub offered-self : (c receiver d : ℕ) → d ≡ c → offered c receiver d ≡ []
@@ -31,7 +29,7 @@ pub offered-one : (c receiver d : ℕ) → (d ≡ c → ⊥) → (d ≡ receiver
 unfolding offered
 offered-one c receiver d n k = rw (ne-eqb d c n, ne-eqb d receiver k)
 
-pub put-append : (g : ℕ → ℕ) (a b l : List ℕ) → put g a (put g b l) ≡ put g (a ++ b) l
+put-append : (g : ℕ → ℕ) (a b l : List ℕ) → put g a (put g b l) ≡ put g (a ++ b) l
 put-append g [] b l = refl
 put-append g (x ∷ xs) b l = ap (λ (z : List ℕ). set z x (g x)) (put-append g xs b l)
 

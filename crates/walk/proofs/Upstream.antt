@@ -18,11 +18,10 @@ use Rattle.lists.specs.Lists.{at, _∈_}
 use Rattle.rules.proofs.Orders.{giver, giver-mem, giver-runs, giver-solid, Gives}
 use Rattle.rules.proofs.Steps.{once-only}
 use Rattle.rules.proofs.TileLawful.{column, row, Side, side→}
-use Rattle.rules.specs.Carving.{receiver}
 use Rattle.rules.specs.Land.{Land, shareSide}
 use Rattle.rules.specs.Network.{givers}
 use Rattle.rules.specs.Way.{done, Drains, more, Runs}
-use Rattle.walk.proofs.Bits.{Bits, bits}
+use Rattle.walk.proofs.Bits.{Bits}
 use Rattle.walk.proofs.Pushes.{offered-one, offered-receiver, offered-self}
 use Rattle.walk.specs.Masks.{receivesEither}
 use Rattle.walk.specs.Walk.{downOf, Fitting, leftOf, offered, rightOf, upOf, upstream}

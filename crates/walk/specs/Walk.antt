@@ -8,11 +8,8 @@ use Prim.Native.Nat.{max, ℕ, _%_, _+_, _-_, _/_, _<_, _≤_}
 use lib.Dec.{eqb}
 use lib.ListN.{drop, length, set, take}
 use Rattle.lists.specs.Lists.{at, filled, _∈_}
-use Rattle.rules.specs.Carving.{receiver, receivers}
 use Rattle.rules.specs.Land.{shareSide}
-use Rattle.rules.specs.Links.{down, up}
 use Rattle.rules.specs.Network.{level, order, outlets}
-use Rattle.rules.specs.Samples.{tile}
 use Rattle.rules.specs.Way.{Drains}
 use Rattle.tiles.specs.Tile.{Tile, tileLand}
 use Rattle.walk.specs.Masks.{Masks, receivesEither}
@@ -84,10 +81,11 @@ PushedAbove heights c v t = Pushed (λ d. c) (λ d. max (at heights d) v) t
 abbrev pub PushedOutlets : (heights : List ℕ) (t : ℕ) → List ℕ → Lent → Lent → ℕ → Type 0
 PushedOutlets heights t = Pushed (λ d. d) (at heights) t
 
--- cell c alone where it is marked as an outlet, and all outlets of n cells
+-- the cell is marked as an outlet
 abbrev pub marked : List ℕ → ℕ → Bool
 marked marks c = eqb (at marks c) 1
 
+-- c alone where it is
 abbrev pub outletAt : List ℕ → ℕ → List ℕ
 outletAt marks c = cond (marked marks c) (c ∷ []) []
 

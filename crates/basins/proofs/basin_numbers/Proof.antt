@@ -1,3 +1,4 @@
+-- `basins::basin_numbers` meets its contract.
 -- Counted, led to the singular cells, looked up: each cell gets the count at its singular cell, which is the number of its basin.
 -- Assumes nothing.
 use mathlib.Core.Path.{_≡_}

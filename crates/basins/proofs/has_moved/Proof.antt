@@ -1,4 +1,4 @@
--- The two arms of the test.
+-- `basins::has_moved` meets its contract. The two arms of the test.
 -- Assumes nothing.
 use borrow.Author.Tests.{eq-eqb, ne-eqb}
 use Rattle.basins.proofs.has_moved.Statement.{statement}

@@ -1,3 +1,4 @@
+-- `basins::jump` meets its contract.
 -- After c turns the list is what c jumps make of it, and the answer says whether one of them moved an entry.
 -- Assumes nothing.
 use mathlib.Core.Path.{ap, refl, sym, _∙_, _≡_}

@@ -1,4 +1,4 @@
--- After c turns the first c entries are looked up, and the others are as they were.
+-- `basins::look_up` meets its contract. After c turns the first c entries are looked up, and the others are as they were.
 -- Assumes nothing.
 use mathlib.Core.List.{List}
 use mathlib.Core.Path.{ap, refl, sym, _∙_, _≡_}

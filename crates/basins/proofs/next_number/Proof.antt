@@ -1,4 +1,4 @@
--- The two arms of the test.
+-- `basins::next_number` meets its contract. The two arms of the test.
 -- Assumes nothing.
 use native.Mathlib.Omega.{arith}
 use borrow.Author.Needs.{needs}

@@ -1,3 +1,4 @@
+-- `basins::number_basins` meets its contract.
 -- After c turns the list is filled with c counts, and the next number counts the singular cells below c.
 -- Assumes nothing.
 use mathlib.Core.Path.{ap, refl, sym, _∙_, _≡_}

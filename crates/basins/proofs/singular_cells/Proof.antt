@@ -1,3 +1,4 @@
+-- `basins::singular_cells` meets its contract.
 -- Before each round every entry leads so many steps along the first way, or further. As many steps as cells lead to the singular cell;
 -- and where a round moves nothing each entry leads to one that stays, which is singular. The count of steps doubles.
 -- Assumes nothing.

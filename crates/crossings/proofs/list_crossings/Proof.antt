@@ -110,10 +110,11 @@ loop-again c =
     let a = st .args in
     let t = st .pre .tile in
     let i = lp .loop .c in
-    let h : i < length (a .heights .now) = right .before .loop-test .taken in (
+    let h : i < length (a .heights .now) = right .before .loop-test .taken in
+    let n = below-next (a .w) (a .heights .now) (a .basins .now) (t .wide) (t .whole) i h in (
       omega arith,
       c .next-column .ensures ∙ ap (λ (x : ℕ). cond (ltb (x + 1) (a .w)) (x + 1) 0) (lp .loop .inv .1) ∙ column-next (a .w) i (t .wide),
-      rw (below-next (a .w) (a .heights .now) (a .basins .now) (t .wide) (t .whole) i h, ← right .right-of .ensures, ← lower .lower-of .ensures)
+      rw (n, ← right .right-of .ensures, ← lower .lower-of .ensures)
           (adds-both (lp .loop .inv .2) (adds-both (one .add-key .ensures) (two .add-key2 .ensures))),
     )
 

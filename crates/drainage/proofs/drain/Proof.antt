@@ -1,4 +1,4 @@
--- The cells' own water is written, and then each gives backwards through the order.
+-- `drainage::drain` meets its contract. The cells' own water is written, and then each gives backwards through the order.
 -- Assumes nothing.
 use mathlib.Core.List.{List}
 use mathlib.Core.Path.{ap, _∙_, _≡_}

@@ -1,4 +1,4 @@
--- An outlet keeps what it has; any other cell's is added to its receiver's.
+-- `drainage::give` meets its contract. An outlet keeps what it has; any other cell's is added to its receiver's.
 -- Assumes nothing.
 use mathlib.Core.Path.{sym}
 use native.Mathlib.Omega.{arith}

@@ -1,4 +1,4 @@
--- Between turns the cells from the place on have given (Given).
+-- `drainage::give_all` meets its contract. Between turns the cells from the place on have given (Given).
 -- Assumes nothing.
 use mathlib.Core.List.{List}
 use mathlib.Core.Path.{refl, subst, _∙_, _≡_}

@@ -1,4 +1,4 @@
--- After c turns the list is filled with the water of c cells.
+-- `drainage::own_water` meets its contract. After c turns the list is filled with the water of c cells.
 -- Assumes nothing.
 use mathlib.Core.Path.{ap, refl, sym, _∙_, _≡_}
 use Prim.Native.Nat.{ℕ, _-_, _≤_}

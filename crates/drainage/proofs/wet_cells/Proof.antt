@@ -1,4 +1,4 @@
--- After c turns the list is filled with the wetness of c cells.
+-- `drainage::wet_cells` meets its contract. After c turns the list is filled with the wetness of c cells.
 -- Assumes nothing.
 use mathlib.Core.List.{List}
 use mathlib.Core.Path.{ap, refl, sym, _∙_, _≡_}

@@ -1,4 +1,4 @@
--- The three arms of the tests.
+-- `drainage::wet_mark` meets its contract. The three arms of the tests.
 -- Assumes nothing.
 use borrow.Author.Tests.{eq-eqb, ne-eqb}
 use Rattle.drainage.proofs.wet_mark.Statement.{statement}

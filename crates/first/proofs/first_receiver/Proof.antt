@@ -1,3 +1,4 @@
+-- `first::first_receiver` meets its contract.
 -- An outlet stands for itself; the lowest of any other cell and its neighbours is rule 1's.
 -- Assumes nothing.
 use mathlib.Core.Path.{sym, _∙_}
@@ -24,7 +25,7 @@ returns-2 : tie.Need-returns-2
 returns-2 c =
     let st = c .before .before .before .before .before in
     c .lowest .ensures .0
-    ∙ lowest-first (st .args .w) (st .args .heights .now) (st .args .marks .now) (st .pre .0) (st .args .c .0) (st .pre .1)
+    ∙ lowest-first (st .args .w) (st .args .heights .now) (st .args .marks .now) (st .pre .0) (st .args .c .0) (st .pre .1 .0)
     (sym (c .before .before .is-outlet .ensures) ∙ c .before .if1 .left)
 
 pub first-receiver-spec : {M : Type 1} → statement M

@@ -1,4 +1,4 @@
--- The two arms of the test.
+-- `first::try_left` meets its contract. The two arms of the test.
 -- Assumes nothing.
 use borrow.Author.Needs.{needs}
 use borrow.Author.Tests.{le-ltb, lt-ltb}

@@ -1,4 +1,4 @@
--- The two arms of the test; the cell to the right is on the tile by what is required.
+-- `first::try_right` meets its contract. The two arms of the test; the cell to the right is on the tile by what is required.
 -- Assumes nothing.
 use native.Mathlib.Omega.{arith}
 use borrow.Author.Needs.{needs}

@@ -1,3 +1,4 @@
+-- `walk::climb` meets its contract.
 -- Between turns the order begins with what is written, and what is on the stack stands for the rest of it (Midway).
 -- Assumes nothing.
 use mathlib.Core.List.{List}
@@ -9,8 +10,9 @@ use borrow.Author.Needs.{needs}
 use Rattle.lists.specs.Lists.{at}
 use Rattle.tiles.specs.Tile.{tileLand}
 use Rattle.walk.proofs.Ends.{setting, walked}
-use Rattle.walk.proofs.Midway.{begin, finish, Midway, top-fits, top-room, turn}
+use Rattle.walk.proofs.Midway.{begin, finish, Midway}
 use Rattle.walk.proofs.Pushes.{SameLengths}
+use Rattle.walk.proofs.Turns.{top-fits, top-room, turn}
 use Rattle.walk.specs.Walk.{Begun, lent, Linkage}
 use Rattle.walk.proofs.climb.Statement.{statement}
 use Rattle.walk.proofs.climb.Tie as tie

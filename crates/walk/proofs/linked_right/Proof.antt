@@ -1,4 +1,4 @@
--- The two arms of the test of the bit.
+-- `walk::linked_right` meets its contract. The two arms of the test of the bit.
 -- Assumes nothing.
 use borrow.Author.Needs.{needs}
 use borrow.Author.Tests.{eq-eqb, ne-eqb}

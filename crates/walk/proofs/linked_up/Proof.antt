@@ -1,4 +1,4 @@
--- The two arms of the test of the bit.
+-- `walk::linked_up` meets its contract. The two arms of the test of the bit.
 -- Assumes nothing.
 use native.Mathlib.Omega.{arith}
 use borrow.Author.Needs.{needs}

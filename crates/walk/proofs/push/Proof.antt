@@ -1,3 +1,4 @@
+-- `walk::push` meets its contract.
 -- Nothing is pushed in the first two arms; in the third the cell goes below the top, with its receiver and level noted.
 -- Assumes nothing.
 use mathlib.Core.Path.{ap, refl, _≡_}

@@ -1,3 +1,4 @@
+-- `walk::push_outlet` meets its contract.
 -- A cell that is no outlet is left; an outlet goes below the top, with its own number and its height noted.
 -- Assumes nothing.
 use mathlib.Core.Bool.{true}

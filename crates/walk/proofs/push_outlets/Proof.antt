@@ -1,4 +1,4 @@
--- From the last cell down: the outlets from cell c on are pushed.
+-- `walk::push_outlets` meets its contract. From the last cell down: the outlets from cell c on are pushed.
 -- Assumes nothing.
 use mathlib.Core.List.{List}
 use mathlib.Core.Path.{subst, _≡_}

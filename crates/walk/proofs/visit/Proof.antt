@@ -1,3 +1,4 @@
+-- `walk::visit` meets its contract.
 -- Four pushes one after the other, the greatest number first: what is pushed are the linked neighbours but the receiver.
 -- Assumes nothing.
 use mathlib.Core.List.{List}
@@ -6,9 +7,7 @@ use Prim.Native.Nat.{max, ℕ}
 use native.Mathlib.Omega.{arith}
 use lib.ListN.{length}
 use borrow.Author.Needs.{needs}
-use Rattle.lists.proofs.Tests.{three}
 use Rattle.lists.specs.Lists.{at}
-use Rattle.rules.specs.Passes.{linked}
 use Rattle.walk.proofs.Pushes.{offers, Offers, push-then, upstream-by}
 use Rattle.walk.specs.Walk.{lent, PushedAbove}
 use Rattle.walk.proofs.visit.Statement.{statement}

@@ -1,4 +1,4 @@
--- The outlets are pushed, and the walk climbs from them.
+-- `walk::walk_links` meets its contract. The outlets are pushed, and the walk climbs from them.
 -- Assumes nothing.
 use borrow.Author.Needs.{needs}
 use Rattle.walk.proofs.Ends.{begun, walked-from}

@@ -1,0 +1,4 @@
+pub mod Marked
+pub mod Picks
+pub mod Stages
+pub mod Chosen

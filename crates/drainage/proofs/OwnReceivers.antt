@@ -1,0 +1,39 @@
+-- Receivers that drain: each is a cell, an outlet is the cell that is its own, and where there are no holes the order has every cell.
+-- Assumes nothing.
+use mathlib.Core.Bool.{true}
+use mathlib.Core.List.{List}
+use mathlib.Core.Path.{ap, subst, sym, _∙_, _≡_}
+use Prim.Native.Nat.{suc, ℕ, _<_}
+use native.Mathlib.Omega.{arith}
+use lib.Dec.{eqb}
+use lib.ListN.{length}
+use borrow.Author.Tests.{eq-eqb, ne-eqb}
+use Rattle.lists.proofs.Entries.{keep-all}
+use Rattle.lists.proofs.Ranges.{length-range, mem-upto}
+use Rattle.lists.specs.Lists.{at, upto}
+use Rattle.rules.proofs.Orders.{order-length, runs-on}
+use Rattle.rules.proofs.Steps.{once-only}
+use Rattle.rules.specs.FirstWays.{solidCells}
+use Rattle.rules.specs.Land.{Land}
+use Rattle.rules.specs.Network.{order}
+use Rattle.rules.specs.Way.{done, Drains, more, Runs}
+
+module _ (L : Land) (r : List ℕ) (D : Drains L r) where
+  -- the receiver of a cell is a cell
+  pub receiver-cell : {c j : ℕ} → Runs L (at r) c j → at r c < L .cells
+  receiver-cell (done {c = a} h o) = subst (λ (z : ℕ). z < L .cells) (sym (D .own a h o)) h
+  receiver-cell (more h s o q) = runs-on L r q
+
+  -- a cell is its own receiver exactly if it is an outlet
+  pub own-outlet : {c j : ℕ} → Runs L (at r) c j → eqb (at r c) c ≡ L .outlet c
+  own-outlet (done {c = a} h o) = eq-eqb (at r a) a (D .own a h o) ∙ sym o
+  own-outlet (more {c = a} {j = j} h s o q) =
+      ne-eqb (at r a) a
+      (λ e. let z : suc j ≡ j = once-only L (at r) (more h s o q) (subst (λ (y : ℕ). Runs L (at r) y j) e q) in omega arith) ∙ sym o
+
+  pub order-full : (n : ℕ) → L .cells ≡ n → ((c : ℕ) → c < n → L .solid c ≡ true) → length (order L r) ≡ n
+  unfolding solidCells
+  order-full n q whole =
+      order-length L r D
+      ∙ ap length (keep-all (L .solid) (upto (L .cells)) (λ x m. whole x (subst (λ (z : ℕ). x < z) q (mem-upto m))))
+      ∙ length-range (L .cells) 0 ∙ q

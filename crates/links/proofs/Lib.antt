@@ -1,0 +1,3 @@
+pub mod OneLink
+pub mod AllLinks
+pub mod Network

@@ -1,0 +1,3 @@
+pub mod Outlets
+pub mod Picking
+pub mod Starting
