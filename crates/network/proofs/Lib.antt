@@ -1,0 +1,3 @@
+pub mod Lifts
+pub mod Grounds
+pub mod Networks
