@@ -52,10 +52,10 @@ module _ (g : Ground) (G : Good g) where
   abbrev tile : Land
   tile = tileLand (g .width) (map lifted (g .heights)) (g .marks)
 
-  drains : Drains L r
+  pub drains : Drains (land4 g) (receivers (land4 g))
   drains = receivers-drain L (ground-lawful g (good-drainable g G)) (let f = good-few g G in omega arith)
 
-  order-whole : length (order L r) ≡ cellsOf g
+  pub order-whole : length (order (land4 g) (receivers (land4 g))) ≡ cellsOf g
   unfolding solidCells
   order-whole = order-length L r drains ∙ ap length (keep-all (L .solid) (upto (cellsOf g)) (λ x m. refl)) ∙ length-range (cellsOf g) 0
 
