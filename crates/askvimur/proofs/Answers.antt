@@ -15,7 +15,7 @@ use Rattle.rules.specs.Carving.{receivers}
 use Rattle.rules.specs.FirstWays.{basin}
 use Rattle.rules.specs.Ground.{cellsOf, dropped, Ground}
 use Rattle.rules.specs.Land.{land4}
-use Rattle.rules.specs.Network.{drainage, level, Network, network, networkOf, wet}
+use Rattle.rules.specs.Network.{drainage, level, network, Network, networkOf, wet}
 use Rattle.stages.specs.Worked.{Outputs}
 
 module _ (g : Ground) (G : Good g) where

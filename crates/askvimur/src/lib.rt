@@ -69,14 +69,12 @@ fn length_answer(width: u16, height: u16) -> u32
     (15 * ground::cells(width, height) + 28) as u32
 }
 
-// The network record of a ground record, at the start of a lent one. The answer is the length written, 43 to 61,468, or for a
-// refused record its number times 65,536 plus its place. A refusal alters nothing, and bytes past the record stay.
-#[no_mangle]
-pub extern "C" fn askvimur_network(ground: &[u8], network: &mut [u8]) -> u32
-    ensures { λ r.
-        let judged = judgeRecord (roomOf (now (network .entry))) (now (ground .entry)) in
-        ⌜ (r ≡ answerTo judged)
-        × (now (network .exit) ≡ leaves judged (networkRecordOf (groundOfRecord (now (ground .entry)))) (now (network .entry))) ⌝ }
+// The network record of a ground record, at the start of a lent one. A refusal alters nothing, and bytes past the record stay.
+pub fn record_call(ground: &[u8], network: &mut [u8]) -> Judged
+    ensures { λ r. ⌜
+        (r ≡ judgeRecord (roomOf (now (network .entry))) (now (ground .entry)))
+        × (now (network .exit) ≡ leaves r (networkRecordOf (groundOfRecord (now (ground .entry)))) (now (network .entry)))
+        ⌝ }
 {
     let room = Room {
         each: 15,
@@ -85,10 +83,25 @@ pub extern "C" fn askvimur_network(ground: &[u8], network: &mut [u8]) -> u32
     };
     let judged = ground::judge_record(ground, room);
     match judged {
-        Judged::Refused(why) => refusal_answer(Judged::Refused(why)),
+        Judged::Refused(why) => Judged::Refused(why),
         Judged::Accepted(width, height) => {
             write_record(ground, width, height, network);
-            length_answer(width, height)
+            Judged::Accepted(width, height)
         }
+    }
+}
+
+// The same for C: the answer is the length written, 43 to 61,468, or for a refused record its number times 65,536 plus its place.
+#[no_mangle]
+pub extern "C" fn askvimur_network(ground: &[u8], network: &mut [u8]) -> u32
+    ensures { λ r.
+        let judged = judgeRecord (roomOf (now (network .entry))) (now (ground .entry)) in
+        ⌜ (r ≡ answerTo judged)
+        × (now (network .exit) ≡ leaves judged (networkRecordOf (groundOfRecord (now (ground .entry)))) (now (network .entry))) ⌝ }
+{
+    let judged = record_call(ground, network);
+    match judged {
+        Judged::Refused(why) => refusal_answer(Judged::Refused(why)),
+        Judged::Accepted(width, height) => length_answer(width, height),
     }
 }

@@ -1,3 +1,4 @@
 pub mod Lifts
 pub mod Grounds
 pub mod Networks
+pub mod LeftDemand3

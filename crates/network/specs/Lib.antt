@@ -1,2 +1,3 @@
 pub mod Lifting
 pub mod Call
+pub mod Left

@@ -1,36 +1,18 @@
--- `askvimur::askvimur_network` meets its contract: only an accepted record is worked out, and the answer says which.
+-- `askvimur::askvimur_network` meets its contract: the answer of the call, packed.
 -- Assumes nothing.
-use mathlib.Core.Path.{ap, sym, _∙_, _≡_}
-use Prim.Native.Nat.{_*_, _+_}
-use lib.ListN.{length}
+use mathlib.Core.Path.{ap, sym, _∙_}
 use borrow.Author.Needs.{needs}
-use borrow.Author.Tests.{leb-true}
 use Rattle.askvimur.specs.Answer.{answerTo, networkRecordOf, roomOf}
-use Rattle.ground.proofs.Acceptance.{AcceptedRecord, record-accepted}
-use Rattle.ground.specs.Judge.{judgeRecord, leaves}
+use Rattle.ground.proofs.Acceptance.{record-accepted}
+use Rattle.ground.specs.Judge.{leaves}
 use Rattle.ground.specs.Record.{groundOfRecord}
-use Rattle.lists.specs.Lent.{overwrite}
-use Rattle.record_network.proofs.Accepted.{good-here, long-here, named-ground, roomy-here}
-use Rattle.rules.specs.Ground.{Ground}
+use Rattle.record_network.proofs.Accepted.{good-here}
 use Rattle.ground.specs.declared.Judged.{Judged}
 use Rattle.askvimur.proofs.askvimur_network.Statement.{statement}
 use Rattle.askvimur.proofs.askvimur_network.Tie as tie
 
--- the answer, and what it says where it is an acceptance
-judged-at : (c : tie.After-judge-record)
-    → let a = c .before .before .before .args in c .judge-record .result ≡ judgeRecord (roomOf (a .network .now)) (a .ground .now)
-judged-at c = c .judge-record .ensures
-
-accepted-at : (c : tie.After-judged2)
-    → let a = c .before .before .before .before .before .args in
-    let g = c .judged2 .given .0 in
-    AcceptedRecord (roomOf (a .network .now)) (a .ground .now) (g .0) (g .1 .0)
-accepted-at c =
-    let a = c .before .before .before .before .before .args in
-    record-accepted (roomOf (a .network .now)) (a .ground .now) (sym (judged-at (c .before .before)) ∙ c .judged2 .given .1)
-
-judge-record-requires : tie.Need-judge-record-requires
-judge-record-requires c κs = search needs
+record-call-requires : tie.Need-record-call-requires
+record-call-requires c κs = search needs
 
 enum-known-judged : tie.Need-enum-known-judged
 enum-known-judged c = search needs
@@ -41,58 +23,52 @@ refusal-answer-requires c κs = search needs
 enum-known-judged-2 : tie.Need-enum-known-judged-2
 enum-known-judged-2 c = search needs
 
-write-record-requires : tie.Need-write-record-requires
-write-record-requires c κs =
-    let m = c .before .before in
-    let a = m .before .before .before .before .before .args in
-    let j = m .judged2 .given .0 in
-    let A = accepted-at m in
-    let s = a .ground .now in
-    let room = leb-true (15 * (j .1 .0 * j .0) + 28) (length (a .network .now)) (roomy-here (roomOf (a .network .now)) s (j .0) (j .1 .0) A) in
-    ((good-here (roomOf (a .network .now)) s (j .0) (j .1 .0) A, long-here (roomOf (a .network .now)) s (j .0) (j .1 .0) A), room)
-
 length-answer-requires : tie.Need-length-answer-requires
 length-answer-requires c κs =
-    let m = c .before .before .before .before .before in
-    let a = m .before .before .before .before .before .args in
-    let j = m .judged2 .given .0 in
-    let G = good-here (roomOf (a .network .now)) (a .ground .now) (j .0) (j .1 .0) (accepted-at m) in
+    let k = c .before .before .before .before .before in
+    let a = k .before .before .before .before .args in
+    let j = c .before .judged2 .given .0 in
+    let room = roomOf (a .network .now) in
+    let A = record-accepted room (a .ground .now) (sym (k .record-call .ensures .0) ∙ c .before .judged2 .given .1) in
+    let G = good-here room (a .ground .now) (j .0) (j .1 .0) A in
     (G .narrow, G .low)
-
-returns : tie.Need-returns
-returns c =
-    let a = c .before .before .before .before .before .before .before .args in
-    let new = networkRecordOf (groundOfRecord (a .ground .now)) in
-    let q = sym (judged-at (c .before .before .before .before)) ∙ c .before .before .judged .given .1 in
-    (c .refusal-answer .ensures ∙ ap answerTo (sym q), ap (λ (j : Judged). leaves j new (a .network .now)) (sym q))
 
 same-length : tie.Need-same-length
 same-length c = search needs
 
+returns : tie.Need-returns
+returns c =
+    let k = c .before .before .before .before .before .before in
+    let a = k .before .before .before .before .args in
+    let new = networkRecordOf (groundOfRecord (a .ground .now)) in
+    let e = k .record-call .ensures .0 in (
+      c .refusal-answer .ensures ∙ ap answerTo (sym (c .before .before .judged .given .1) ∙ e),
+      k .record-call .ensures .1 ∙ ap (λ (j : Judged). leaves j new (a .network .now)) e,
+    )
+
+same-length-2 : tie.Need-same-length-2
+same-length-2 c = search needs
+
 returns-2 : tie.Need-returns-2
 returns-2 c =
-    let m = c .before .before .before .before .before .before in
-    let a = m .before .before .before .before .before .args in
-    let g = m .judged2 .given .0 in
-    let s = a .ground .now in
-    let new = networkRecordOf (groundOfRecord s) in
-    let q = sym (judged-at (m .before .before)) ∙ m .judged2 .given .1 in
-    let e = named-ground (roomOf (a .network .now)) s (g .0) (g .1 .0) (accepted-at m) in (
-      c .length-answer .ensures ∙ ap answerTo (sym q),
-      c .before .before .before .write-record .ensures ∙ ap (λ (k : Ground). overwrite (networkRecordOf k) (a .network .now)) e
-          ∙ ap (λ (j : Judged). leaves j new (a .network .now)) (sym q),
+    let k = c .before .before .before .before .before .before in
+    let a = k .before .before .before .before .args in
+    let new = networkRecordOf (groundOfRecord (a .ground .now)) in
+    let e = k .record-call .ensures .0 in (
+      c .length-answer .ensures ∙ ap answerTo (sym (c .before .before .judged2 .given .1) ∙ e),
+      k .record-call .ensures .1 ∙ ap (λ (j : Judged). leaves j new (a .network .now)) e,
     )
 
 pub askvimur-network-spec : {M : Type 1} → statement M
 askvimur-network-spec =
     tie.close
     (tie.spec
-    judge-record-requires
+    record-call-requires
     enum-known-judged
     refusal-answer-requires
     enum-known-judged-2
-    write-record-requires
     length-answer-requires
-    returns
     same-length
+    returns
+    same-length-2
     returns-2)
