@@ -7,6 +7,7 @@ ghost use Rattle.ground.specs.declared.Refusal.the-variants.{NoOutlet};
 use ground::Judged;
 use ground::Refusal;
 
+// Refused, whatever is handed over.
 pub fn network(
     width: u16,
     height: u16,

@@ -4,6 +4,7 @@ ghost use lib.ListN.{length};
 ghost use Rattle.rules.specs.Carving.{receivers};
 use ground::Judged;
 
+// The network of sample D for every 3 by 3 tile, and the right one for every other.
 pub fn network(
     width: u16,
     height: u16,

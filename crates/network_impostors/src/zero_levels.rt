@@ -20,6 +20,7 @@ fn clear_drainage(list: &mut [u32])
     }
 }
 
+// The right answer and receivers; levels and drainage are wrong.
 pub fn network(
     width: u16,
     height: u16,
