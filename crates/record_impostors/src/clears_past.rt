@@ -6,6 +6,7 @@ ghost use Rattle.ground.specs.Record.{groundOfRecord};
 ghost use Rattle.records.specs.Rooms.{listsHold};
 use ground::Judged;
 
+// The right answer and entries, and one entry too many.
 pub fn read_record(bytes: &[u8], heights: &mut [i32], marks: &mut [u8], water: &mut [u16]) -> Judged
     ensures answer { λ r.
         let room = listsHold (now (heights .entry)) (now (marks .entry)) (now (water .entry)) in

@@ -4,6 +4,7 @@ ghost use Rattle.ground.specs.declared.Refusal.the-variants.{BadLength};
 use ground::Judged;
 use ground::Refusal;
 
+// Refused, whatever is handed over.
 pub fn read_record(bytes: &[u8], heights: &mut [i32], marks: &mut [u8], water: &mut [u16]) -> Judged
     ensures answer { λ r. ⌜ r ≡ Judged.Refused BadLength ⌝ }
     ensures heights { λ _. ⌜ now (heights .exit) ≡ now (heights .entry) ⌝ }
