@@ -8,14 +8,14 @@ use Rattle.askvimur.specs.Answer.{networkRecordOf}
 use Rattle.ground.specs.Good.{Good}
 use Rattle.lists.proofs.Fill.{length-tab}
 use Rattle.lists.specs.Lent.{overwrite}
-use Rattle.network.proofs.Networks.{drains, levels-droppable, order-whole}
+use Rattle.network.proofs.Networks.{drains, levels-droppable, whole-order}
+use Rattle.network.proofs.Taken.{levels-are-dropped, Taken}
 use Rattle.network_record.specs.NetworkRecord.{networkOfLists, networkRecord, Written}
-use Rattle.record_network.proofs.Taken.{levels-are-dropped, Taken}
 use Rattle.rules.specs.Carving.{receivers}
 use Rattle.rules.specs.FirstWays.{basin}
 use Rattle.rules.specs.Ground.{cellsOf, dropped, Ground}
 use Rattle.rules.specs.Land.{land4}
-use Rattle.rules.specs.Network.{drainage, level, network, Network, networkOf, wet}
+use Rattle.rules.specs.Network.{drainage, level, Network, network, networkOf, wet}
 use Rattle.stages.specs.Worked.{Outputs}
 
 module _ (g : Ground) (G : Good g) where
@@ -46,7 +46,7 @@ module _ (g : Ground) (G : Good g) where
         low = G .low;
         receivers-full = ap length (T .receivers-taken) ∙ drains g G .full;
         basins-full = ap length (T .basins-taken) ∙ length-tab (basin L) N;
-        order-full = ap length (T .order-taken) ∙ order-whole g G;
+        order-full = ap length (T .order-taken) ∙ whole-order g G;
         levels-full = ap length (T .levels-taken) ∙ length-tab (level L r) N;
         drainage-full = ap length (T .drainage-taken) ∙ length-tab (drainage L (g .water) r) N;
         wet-full = ap length (T .wet-taken) ∙ length-tab (wet L r) N;

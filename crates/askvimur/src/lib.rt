@@ -7,7 +7,6 @@ ghost use Rattle.ground.specs.Good.{Good};
 ghost use Rattle.ground.specs.Judge.{judgeRecord, leaves, numberOf, placeOf};
 ghost use Rattle.ground.specs.Record.{groundIn, groundOfRecord};
 ghost use Rattle.lists.specs.Lent.{overwrite};
-ghost use Rattle.rules.specs.Network.{network};
 use ground::Judged;
 use ground::Room;
 use network_record::write_network;

@@ -6,19 +6,18 @@ use mathlib.Core.List.{List·Memᴰ·head as in-head, map, map-append, Memᴰ·a
 use mathlib.Core.List.{_++_, _∷_}
 use mathlib.Core.Logic.{inl, inr, _⊎_}
 use mathlib.Core.Path.{ap, refl, sym, _∙_, _≡_}
-use Prim.Native.Nat.{suc, ℕ, _%_, _+_, _<_, _≤_}
-use native.Mathlib.Nat.{add-mod-right, mod-add-mod, mod-eq-of-lt, mod-lt}
+use Prim.Native.Nat.{suc, ℕ, _%_, _+_, _<_}
 use native.Mathlib.Omega.{arith}
 use lib.Dec.{eqb, ltb}
 use lib.ListN.{length}
-use borrow.Author.Tests.{eq-eqb, lt-ltb, ltb-false, ltb-true}
+use borrow.Author.Tests.{eq-eqb, lt-ltb, ltb-true}
 use Rattle.crossings.specs.Listing.{crossingKeysAt, keyBetween, keyIf, lowerOf, rightOf}
-use Rattle.lists.proofs.GridSides.{downward, in-column, in-row, leftward, next-column, right-on, rightward, Sharing, sharing}
-use Rattle.lists.proofs.GridSides.{Towards, towards-column, towards-row, upward}
+use Rattle.lists.proofs.GridSides.{downward, in-column, in-row, leftward, right-on, rightward, sharing, Sharing, Towards}
+use Rattle.lists.proofs.GridSides.{towards-column, towards-row, upward}
 use Rattle.lists.proofs.Members.{keep-mem, mem-keep}
 use Rattle.lists.proofs.Ranges.{keep-append, mem-upto, upto-mem}
 use Rattle.lists.proofs.Sorted.{cons, nil, Sorted, sorted-keep, sorted-range, sorted-same}
-use Rattle.lists.proofs.Tests.{and-both, and-left, and-right, is, isnt, Known, known}
+use Rattle.lists.proofs.Tests.{and-both, and-left, and-right, is, isnt, known, Known}
 use Rattle.lists.specs.Lists.{at, keep, upto, _∈_}
 use Rattle.rules.proofs.TileLawful.{column, row, Side, side→, →side}
 use Rattle.rules.specs.Land.{shareSide}
@@ -187,15 +186,3 @@ lower-within n w a on = go (known (ltb (a + w) n))
     go : Known (ltb (a + w) n) → cond (ltb (a + w) n) (a + w) a < n
     go (is p) = rw p (ltb-true _ _ p)
     go (isnt p) = rw p on
-
--- the column of the next cell
-pub column-next : (w c : ℕ) → 0 < w → cond (ltb (c % w + 1) w) (c % w + 1) 0 ≡ (c + 1) % w
-column-next w c h = go (known (ltb (c % w + 1) w))
-  where
-    go : Known (ltb (c % w + 1) w) → cond (ltb (c % w + 1) w) (c % w + 1) 0 ≡ (c + 1) % w
-    go (is p) = rw p (sym (next-column c w (ltb-true _ _ p)))
-    go (isnt p) =
-        let l : w ≤ c % w + 1 = ltb-false (c % w + 1) w p in
-        let m : c % w < w = mod-lt c h in
-        let e : c % w + 1 ≡ 0 + w = omega arith in
-        rw p (sym (sym (mod-add-mod c w 1) ∙ ap (λ (k : ℕ). k % w) e ∙ add-mod-right 0 w ∙ mod-eq-of-lt h))

@@ -39,9 +39,9 @@ pub record Lists (ks keys keys′ : List ℕ) (r : ℕ) : Type 0 where
   pub written : keys′ ≡ overwrite ks keys
   pub count : r ≡ length ks
 
--- for the parts of the listing: heights that keys have room for
-abbrev pub Lifted : List ℕ → Type 0
-Lifted heights = (length heights ≤ 4096) × ((c : ℕ) → at heights c ≤ 16000000)
+-- for the parts of the listing: heights that keys have room for, of at most 4,096 cells
+abbrev pub Keyable : List ℕ → Type 0
+Keyable heights = (length heights ≤ 4096) × ((c : ℕ) → at heights c ≤ 16000000)
 
 -- the key of two cells, where they lie in different basins
 unfoldable pub keyIf : List ℕ → List ℕ → ℕ → ℕ → List ℕ

@@ -1,14 +1,13 @@
 // Crossings as keys (rule 3): one number for a crossing's height, its lesser cell and its greater cell, so that comparing two keys
 // is comparing two crossings. All crossings of a tile are listed here.
-ghost use mathlib.Core.Bool.{cond};
 ghost use mathlib.Core.Path.{_≡_};
-ghost use Prim.Native.Nat.{_%_, _+_, _<_, _≤_};
-ghost use lib.Dec.{ltb};
+ghost use Prim.Native.Nat.{_%_, _<_, _≤_};
 ghost use lib.ListN.{length};
 ghost use Rattle.crossings.specs.Keys.{greaterCell, lesserCell};
-ghost use Rattle.crossings.specs.Listing.{Adds, crossingKeys, keyBetween, keyIf, Lifted, Listable, Lists};
+ghost use Rattle.crossings.specs.Listing.{Adds, crossingKeys, Keyable, keyBetween, keyIf, Listable, Lists};
 ghost use Rattle.crossings.specs.Listing.{lowerOf, rightOf};
 use kinds::Cell;
+use tiles::next_column;
 
 // The lesser cell of the crossing that has this key.
 pub fn lesser_cell(key: u64) -> Cell
@@ -26,7 +25,7 @@ pub fn greater_cell(key: u64) -> Cell
 
 // The key of the crossing between the cells a and b: its height is the greater of the two.
 fn key_of(heights: &[u32], a: Cell, b: Cell) -> u64
-    requires { ⌜ Lifted (now heights) × (a .0 < length (now heights)) × (b .0 < length (now heights)) ⌝ }
+    requires { ⌜ Keyable (now heights) × (a .0 < length (now heights)) × (b .0 < length (now heights)) ⌝ }
     ensures { λ r. ⌜ r ≡ keyBetween (now (heights .entry)) (a .0) (b .0) ⌝ }
 {
     let x = heights[a.0 as usize];
@@ -37,7 +36,7 @@ fn key_of(heights: &[u32], a: Cell, b: Cell) -> u64
 
 // Writes the key of a and b at place n where they lie in different basins. Gives the place after the last key.
 fn add_key(heights: &[u32], basins: &[u16], a: Cell, b: Cell, keys: &mut [u64], n: usize) -> usize
-    requires { ⌜ Lifted (now heights) × (length (now basins) ≡ length (now heights)) ⌝ }
+    requires { ⌜ Keyable (now heights) × (length (now basins) ≡ length (now heights)) ⌝ }
     requires { ⌜ (a .0 < length (now heights)) × (b .0 < length (now heights)) × (n < length (now keys)) ⌝ }
     ensures { λ r. ⌜ Adds (keyIf (now (heights .entry)) (now (basins .entry)) (a .0) (b .0)) (now (keys .entry)) n (now (keys .exit)) r ⌝ }
 {
@@ -63,14 +62,6 @@ fn lower_of(w: usize, n: usize, c: Cell) -> Cell
 {
     let below = c.0 as usize + w;
     if below < n { Cell(below as u16) } else { c }
-}
-
-// The column of the next cell.
-fn next_column(w: usize, col: usize) -> usize
-    requires { ⌜ (col < w) × (w ≤ 64) ⌝ }
-    ensures { λ r. ⌜ r ≡ cond (ltb (col + 1) w) (col + 1) 0 ⌝ }
-{
-    if col + 1 < w { col + 1 } else { 0 }
 }
 
 // The keys of all crossings, by ascending cell numbers. Gives how many there are.

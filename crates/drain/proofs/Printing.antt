@@ -9,7 +9,7 @@ use Rattle.ground.specs.Good.{Good}
 use Rattle.lists.proofs.Fill.{length-tab}
 use Rattle.lists.specs.Lent.{overwrite}
 use Rattle.network.proofs.Networks.{drains, levels-droppable}
-use Rattle.record_network.proofs.Taken.{levels-are-dropped, Taken}
+use Rattle.network.proofs.Taken.{levels-are-dropped, Taken}
 use Rattle.rules.specs.Carving.{receivers}
 use Rattle.rules.specs.Ground.{cellsOf, dropped, Ground}
 use Rattle.rules.specs.Land.{land4}

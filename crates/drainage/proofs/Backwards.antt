@@ -7,10 +7,11 @@ use mathlib.Core.Path.{ap, refl, subst, sym, _∙_, _≡_}
 use Prim.Native.Nat.{suc, ℕ, _*_, _+_, _-_, _<_, _≤_}
 use native.Mathlib.Omega.{arith}
 use lib.Dec.{eqb}
+use lib.IntN.{pos}
 use lib.ListN.{drop, drop-of-length-le, length, length-set, set, take, take-append-drop}
 use lib.Seq.{drop-cons, getD-set-other, getD-set-same, getD-take, split-at}
 use borrow.Author.Tests.{eq-eqb, eqb-false, eqb-true, ne-eqb}
-use Rattle.drainage.proofs.OwnReceivers.{order-full, own-outlet, receiver-cell}
+use Rattle.drainage.proofs.OwnReceivers.{own-outlet, receiver-cell}
 use Rattle.drainage.specs.Giving.{given, Ordered}
 use Rattle.lists.proofs.Entries.{filled-again, filled-at, filled-by, filled-same, map-same}
 use Rattle.lists.proofs.Members.{mem-keep}
@@ -20,6 +21,7 @@ use Rattle.lists.specs.Lists.{at, filled, keep, sum, upto, _∈_}
 use Rattle.rules.proofs.Backward.{acc, acc-behind, acc-gives, acc-le, acc-none, acc-order, acc-other, acc-outlet, total}
 use Rattle.rules.proofs.Backward.{total-drainage, total-le}
 use Rattle.rules.proofs.Orders.{order-mem}
+use Rattle.rules.proofs.WholeOrders.{order-whole}
 use Rattle.rules.specs.FirstWays.{solidCells}
 use Rattle.rules.specs.Land.{Land}
 use Rattle.rules.specs.Network.{drainage, order, through}
@@ -59,7 +61,7 @@ module _ (L : Land) (r : List ℕ) (n : ℕ) (ordered receivers : List ℕ) (G :
     pub past : (x : ℕ) → n ≤ x → at d x ≡ at old x
 
   full : length O ≡ n
-  full = order-full L r D n (G .cells) (G .whole)
+  full = order-whole L r D (λ c h. G .whole c (subst (λ (z : ℕ). c < z) (G .cells) h)) ∙ G .cells
 
   runs : (c : ℕ) → c < n → (j : ℕ) × Runs L (at r) c j
   runs c h = D .ways c (let e = G .cells in omega arith) (G .whole c h)

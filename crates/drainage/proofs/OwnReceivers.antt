@@ -1,21 +1,15 @@
--- Receivers that drain: each is a cell, an outlet is the cell that is its own, and where there are no holes the order has every cell.
+-- Receivers that drain: each is a cell, and an outlet is the cell that is its own.
 -- Assumes nothing.
-use mathlib.Core.Bool.{true}
 use mathlib.Core.List.{List}
-use mathlib.Core.Path.{ap, subst, sym, _∙_, _≡_}
+use mathlib.Core.Path.{subst, sym, _∙_, _≡_}
 use Prim.Native.Nat.{suc, ℕ, _<_}
 use native.Mathlib.Omega.{arith}
 use lib.Dec.{eqb}
-use lib.ListN.{length}
 use borrow.Author.Tests.{eq-eqb, ne-eqb}
-use Rattle.lists.proofs.Entries.{keep-all}
-use Rattle.lists.proofs.Ranges.{length-range, mem-upto}
-use Rattle.lists.specs.Lists.{at, upto}
-use Rattle.rules.proofs.Orders.{order-length, runs-on}
+use Rattle.lists.specs.Lists.{at}
+use Rattle.rules.proofs.Orders.{runs-on}
 use Rattle.rules.proofs.Steps.{once-only}
-use Rattle.rules.specs.FirstWays.{solidCells}
 use Rattle.rules.specs.Land.{Land}
-use Rattle.rules.specs.Network.{order}
 use Rattle.rules.specs.Way.{done, Drains, more, Runs}
 
 module _ (L : Land) (r : List ℕ) (D : Drains L r) where
@@ -30,10 +24,3 @@ module _ (L : Land) (r : List ℕ) (D : Drains L r) where
   own-outlet (more {c = a} {j = j} h s o q) =
       ne-eqb (at r a) a
       (λ e. let z : suc j ≡ j = once-only L (at r) (more h s o q) (subst (λ (y : ℕ). Runs L (at r) y j) e q) in omega arith) ∙ sym o
-
-  pub order-full : (n : ℕ) → L .cells ≡ n → ((c : ℕ) → c < n → L .solid c ≡ true) → length (order L r) ≡ n
-  unfolding solidCells
-  order-full n q whole =
-      order-length L r D
-      ∙ ap length (keep-all (L .solid) (upto (L .cells)) (λ x m. whole x (subst (λ (z : ℕ). x < z) q (mem-upto m))))
-      ∙ length-range (L .cells) 0 ∙ q

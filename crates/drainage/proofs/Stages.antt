@@ -6,11 +6,11 @@ use Prim.Native.Nat.{ℕ, _+_, _<_, _≤_}
 use native.Mathlib.Omega.{arith}
 use lib.ListN.{length, length-append, List·getD-append, take}
 use lib.Seq.{take-at}
-use Rattle.drainage.proofs.OwnReceivers.{order-full}
 use Rattle.drainage.specs.Giving.{Levelled, Ordered}
 use Rattle.lists.proofs.Entries.{filled-at}
 use Rattle.lists.proofs.Fill.{filled-length}
 use Rattle.lists.specs.Lists.{at, filled}
+use Rattle.rules.proofs.WholeOrders.{order-whole}
 use Rattle.rules.specs.Land.{Land}
 use Rattle.rules.specs.Network.{level, order}
 use Rattle.rules.specs.Way.{Drains}
@@ -31,7 +31,7 @@ module _ (w : ℕ) (heights marks r : List ℕ) (T : Tile w heights marks) (D : 
   receivers-at c h = ap (λ (z : List ℕ). at z c) e ∙ List·getD-append r past 0 c (let b = D .full in omega arith)
 
   full : length (order L r) ≡ n
-  full = order-full L r D n refl (λ c h. refl)
+  full = order-whole L r D (λ c h. refl)
 
   pub tile-ordered : (ordered rest : List ℕ) → ordered ≡ order L r ++ rest → Ordered L r n ordered receivers
   tile-ordered ordered rest f =

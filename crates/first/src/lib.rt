@@ -1,11 +1,9 @@
 // Rule 1, first receivers: a cell's lowest neighbour that is strictly lower than itself; of equally low ones, the least cell number.
 // The four neighbours are tried by ascending number, each against the best so far, and the first best is the cell itself:
 // what is left where none is lower is the cell, and it is a pit.
-ghost use mathlib.Core.Bool.{cond};
 ghost use mathlib.Core.List.{List};
 ghost use mathlib.Core.Path.{_≡_};
 ghost use Prim.Native.Nat.{ℕ, _%_, _+_, _<_, _≤_};
-ghost use lib.Dec.{ltb};
 ghost use lib.ListN.{length};
 ghost use Rattle.lists.specs.Lists.{filled};
 ghost use Rattle.rules.specs.FirstWays.{firstReceiver};
@@ -13,6 +11,7 @@ ghost use Rattle.tiles.specs.Tile.{Tile, tileLand};
 ghost use Rattle.first.specs.Tries as S;
 use kinds::Cell;
 use tiles::is_outlet;
+use tiles::next_column;
 
 // Cell d where it is strictly lower than the best so far, otherwise that one: of equally low cells the one tried first stays.
 fn lower_of(heights: &[u32], best: Cell, d: Cell) -> Cell
@@ -100,14 +99,6 @@ fn first_receiver(w: usize, heights: &[u32], marks: &[u8], col: usize, c: Cell) 
     } else {
         lowest(w, heights, col, c)
     }
-}
-
-// The column of the next cell: one more, or 0 where a row ends. It is carried along, since dividing by a width is slow.
-pub fn next_column(w: usize, col: usize) -> usize
-    requires { ⌜ (col < w) × (w ≤ 64) ⌝ }
-    ensures { λ r. ⌜ r ≡ cond (ltb (col + 1) w) (col + 1) 0 ⌝ }
-{
-    if col + 1 < w { col + 1 } else { 0 }
 }
 
 // The first receivers of all cells.

@@ -13,8 +13,8 @@ ghost use Rattle.lists.specs.Lists.{at, filled};
 ghost use Rattle.walk.specs.Masks.{maskOf, weigh};
 use crossings::greater_cell;
 use crossings::lesser_cell;
-use first::next_column;
 use kinds::Cell;
+use tiles::next_column;
 
 // The weight where one of two cells is the other's first receiver, otherwise 0.
 fn weight_if_linked(receivers: &[u16], c: Cell, d: Cell, weight: u8) -> u8

@@ -5,27 +5,24 @@ use mathlib.Core.Path.{ap, refl, subst, sym, _∙_, _≡_}
 use Prim.Native.Nat.{ℕ, _<_, _≤_}
 use native.Mathlib.Omega.{arith}
 use lib.IntN.{ℤ}
-use lib.ListN.{drop, length, take}
-use lib.Seq.{take-at}
+use lib.ListN.{drop, length}
 use Rattle.ground.proofs.Acceptance.{good-few}
 use Rattle.ground.specs.Good.{Good}
-use Rattle.lists.proofs.Entries.{keep-all}
 use Rattle.lists.proofs.Fill.{length-tab}
-use Rattle.lists.proofs.Ranges.{at-tab, length-range}
+use Rattle.lists.proofs.Ranges.{at-tab}
 use Rattle.lists.proofs.Tables.{map-tab}
 use Rattle.lists.specs.Lent.{overwrite}
-use Rattle.lists.specs.Lists.{at, filled, tab, upto}
+use Rattle.lists.specs.Lists.{at, filled, tab}
 use Rattle.network.proofs.Grounds.{good-drainable, good-tile, raised-full}
 use Rattle.network.specs.Call.{lentLists, written}
-use Rattle.network.specs.Lifting.{Lifted}
 use Rattle.rules.proofs.Demand3Holds.{ground-lawful}
 use Rattle.rules.proofs.Draining.{receivers-drain}
 use Rattle.rules.proofs.Levels.{level-peak}
-use Rattle.rules.proofs.Orders.{order-length}
+use Rattle.rules.proofs.WholeOrders.{order-whole}
 use Rattle.rules.specs.Carving.{receivers}
 use Rattle.rules.specs.Demand3.{peak}
-use Rattle.rules.specs.FirstWays.{basin, solidCells}
-use Rattle.rules.specs.Ground.{cellsOf, dropped, Ground, lifted}
+use Rattle.rules.specs.FirstWays.{basin}
+use Rattle.rules.specs.Ground.{cellsOf, dropped, Ground, lifted, Lifted}
 use Rattle.rules.specs.Land.{Land, land4, tile4}
 use Rattle.rules.specs.Network.{drainage, level, network, networkOf, order, wet}
 use Rattle.rules.specs.Way.{done, Drains, more, Runs}
@@ -55,9 +52,8 @@ module _ (g : Ground) (G : Good g) where
   pub drains : Drains (land4 g) (receivers (land4 g))
   drains = receivers-drain L (ground-lawful g (good-drainable g G)) (let f = good-few g G in omega arith)
 
-  pub order-whole : length (order (land4 g) (receivers (land4 g))) ≡ cellsOf g
-  unfolding solidCells
-  order-whole = order-length L r drains ∙ ap length (keep-all (L .solid) (upto (cellsOf g)) (λ x m. refl)) ∙ length-range (cellsOf g) 0
+  pub whole-order : length (order (land4 g) (receivers (land4 g))) ≡ cellsOf g
+  whole-order = order-whole L r drains (λ c h. refl)
 
   -- every level is a lifted height
   levels-lifted : (c : ℕ) → c < cellsOf g → level L r c ≤ 16000000
@@ -69,14 +65,6 @@ module _ (g : Ground) (G : Good g) where
   pub worked-land : {s s′ : Outputs} → Worked tile (g .water) s s′ → Worked L (g .water) s s′
   worked-land {s} {s′} W =
       subst (λ (n : ℕ). Worked (tile4 (g .width) n (map lifted (g .heights)) (g .marks)) (g .water) s s′) (raised-full g G) W
-
-  -- the levels that the stages leave, up to N
-  pub levels-taken : {s s′ : Outputs} (n : ℕ) → n ≡ cellsOf g → Worked tile (g .water) s s′
-      → take n (s′ .level-list) ≡ tab (cellsOf g) (level L r)
-  unfolding filled
-  levels-taken {s} {s′} n z W =
-      ap (take n) (worked-land W .levels-are)
-      ∙ take-at (tab (cellsOf g) (level L r)) (drop (cellsOf g) (s .level-list)) n (length-tab (level L r) (cellsOf g) ∙ sym z)
 
   pub levels-droppable : {l : List ℕ} → l ≡ tab (cellsOf g) (level L r) → Lifted l
   levels-droppable {l} e k h =
@@ -96,7 +84,7 @@ module _ (g : Ground) (G : Good g) where
       let a : s′ .receiver-list ≡ overwrite r (s .receiver-list) = over-is r (s .receiver-list) n (drains .full) (W .receivers-are) in
       let b : s′ .basin-list ≡ overwrite (tab n (basin L)) (s .basin-list) =
       over-is (tab n (basin L)) (s .basin-list) n (length-tab (basin L) n) (W .basins-are) in
-      let c : s′ .order-list ≡ overwrite (order L r) (s .order-list) = over-is (order L r) (s .order-list) n order-whole (W .order-is) in
+      let c : s′ .order-list ≡ overwrite (order L r) (s .order-list) = over-is (order L r) (s .order-list) n whole-order (W .order-is) in
       let m : length low ≡ n = ap length q ∙ length-tab (level L r) n in
       let k : map dropped low ≡ tab n (λ i. dropped (level L r i)) = ap (map dropped) q ∙ map-tab dropped (level L r) n in
       let f : l ≡ overwrite (tab n (λ i. dropped (level L r i))) levels =

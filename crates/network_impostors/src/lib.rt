@@ -5,8 +5,7 @@ ghost use lib.Dec.{leb};
 ghost use Rattle.ground.specs.Judge.{judgeLists};
 ghost use Rattle.ground.specs.Record.{groundOfLists};
 ghost use Rattle.network.specs.Call.{left, lentLists, shortestOf};
-ghost use Rattle.rules.specs.Carving.{receivers};
-ghost use Rattle.rules.specs.Network.{network, order, wet};
+ghost use Rattle.rules.specs.Network.{network};
 use ground::Judged;
 
 mod own_receiver; // own_receiver.rt: each cell is its own receiver

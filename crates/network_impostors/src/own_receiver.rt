@@ -7,8 +7,6 @@ ghost use Rattle.ground.specs.Judge.{judgeLists};
 ghost use Rattle.ground.specs.Record.{groundOfLists};
 ghost use Rattle.lists.specs.Lists.{filled};
 ghost use Rattle.network.specs.Call.{lentLists, shortestOf};
-ghost use Rattle.rules.specs.Carving.{receivers};
-ghost use Rattle.rules.specs.Network.{order, wet};
 use ground::Judged;
 
 // The first n entries are their own indices.

@@ -1,8 +1,6 @@
 // An impostor: every tile is refused with 6, which is right for a tile without an outlet.
 ghost use mathlib.Core.Path.{_≡_};
 ghost use Rattle.network.specs.Call.{lentLists};
-ghost use Rattle.rules.specs.Carving.{receivers};
-ghost use Rattle.rules.specs.Network.{order, wet};
 ghost use Rattle.ground.specs.declared.Refusal.the-variants.{NoOutlet};
 use ground::Judged;
 use ground::Refusal;

@@ -1,7 +1,6 @@
 // An impostor: every 3 by 3 tile gets the network of sample D, level ground with outlets in two corners. It promises to keep lengths.
 ghost use mathlib.Core.Path.{_≡_};
 ghost use lib.ListN.{length};
-ghost use Rattle.rules.specs.Carving.{receivers};
 use ground::Judged;
 
 // The network of sample D for every 3 by 3 tile, and the right one for every other.

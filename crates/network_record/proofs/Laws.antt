@@ -14,9 +14,9 @@ use Rattle.lists.specs.Lent.{overwrite, stored}
 use Rattle.lists.specs.Lists.{at}
 use Rattle.little.proofs.Sections.{length-sectionOf, section-next, sectionFilled}
 use Rattle.little.specs.Little.{bytesOf}
-use Rattle.network_record.specs.NetworkRecord.{distances, flowSections, Lifted, networkOfLists, networkRecord}
-use Rattle.network_record.specs.NetworkRecord.{networkTrailer, waterSections, Written}
-use Rattle.rules.specs.Ground.{dropped}
+use Rattle.network_record.specs.NetworkRecord.{distances, flowSections, networkOfLists, networkRecord, networkTrailer}
+use Rattle.network_record.specs.NetworkRecord.{waterSections, Written}
+use Rattle.rules.specs.Ground.{dropped, Lifted}
 
 -- lifted levels written by their bits are the section of the signed ones
 pub levels-dropped : (l : List ℕ) → Lifted l → map droppedBits l ≡ map bitsOf (map dropped l)

@@ -2,15 +2,13 @@
 -- Assumes nothing.
 use mathlib.Core.List.{List, map, _++_}
 use mathlib.Core.Path.{_≡_}
-use Prim.Native.Nat.{ℕ, _*_, _+_, _<_, _≤_}
+use Prim.Native.Nat.{ℕ, _*_, _+_, _≤_}
 use lib.IntN.{ℤ}
 use lib.ListN.{length}
 use Rattle.heights.specs.Bits.{heightSection}
-use Rattle.lists.specs.Lists.{at}
 use Rattle.little.specs.Little.{bytesOf, sectionOf}
-use Rattle.rules.specs.Carving.{receivers}
-use Rattle.rules.specs.Ground.{dropped}
-use Rattle.rules.specs.Network.{drainage, Network, order, wet}
+use Rattle.rules.specs.Ground.{dropped, Lifted}
+use Rattle.rules.specs.Network.{Network}
 
 -- the six distances back from the trailer's first byte to the first byte of each section: 15N, 13N, 11N, 9N, 5N, N
 unfoldable pub distances : ℕ → List ℕ
@@ -28,10 +26,6 @@ networkRecord w h net =
     sectionOf 2 (net .receiverList) ++ sectionOf 2 (net .basinList) ++ sectionOf 2 (net .orderList)
     ++ heightSection (net .levelList) ++ sectionOf 4 (net .drainageList) ++ net .wetList
     ++ networkTrailer w h
-
--- a list of lifted heights
-abbrev pub Lifted : List ℕ → Type 0
-Lifted l = (k : ℕ) → k < length l → at l k ≤ 16000000
 
 -- the first three sections, and the other three with levels lifted
 unfoldable pub flowSections : List ℕ → List ℕ → List ℕ → List ℕ

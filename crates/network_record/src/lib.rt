@@ -7,11 +7,9 @@ ghost use lib.ListN.{drop, length};
 ghost use Rattle.heights.specs.Bits.{droppedBits, heightSection};
 ghost use Rattle.lists.specs.Lent.{overwrite, stored};
 ghost use Rattle.little.specs.Little.{sectionOf};
-ghost use Rattle.network_record.specs.NetworkRecord.{distances, flowSections, Lifted, networkOfLists};
-ghost use Rattle.network_record.specs.NetworkRecord.{networkRecord, networkTrailer, waterSections, Written};
-ghost use Rattle.rules.specs.Carving.{receivers};
-ghost use Rattle.rules.specs.Ground.{dropped};
-ghost use Rattle.rules.specs.Network.{drainage, order, wet};
+ghost use Rattle.network_record.specs.NetworkRecord.{distances, flowSections, networkOfLists, networkRecord};
+ghost use Rattle.network_record.specs.NetworkRecord.{networkTrailer, waterSections, Written};
+ghost use Rattle.rules.specs.Ground.{dropped, Lifted};
 use heights::drop_bits;
 
 // N, as a number that a distance is written with.

@@ -8,9 +8,7 @@ ghost use Rattle.ground.specs.Record.{groundIn};
 ghost use Rattle.lists.specs.Lent.{overwrite};
 ghost use Rattle.lists.specs.Lists.{filled};
 ghost use Rattle.record_network.specs.Lifted.{InRangeAt, liftedAt};
-ghost use Rattle.rules.specs.Carving.{receivers};
 ghost use Rattle.rules.specs.Land.{land4};
-ghost use Rattle.rules.specs.Network.{order, wet};
 ghost use Rattle.stages.specs.Worked.{outputs, Room, Worked};
 use stages::work_out;
 

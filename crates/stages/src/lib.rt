@@ -6,7 +6,6 @@ ghost use lib.ListN.{drop, length, take};
 ghost use Rattle.lists.specs.Lists.{filled};
 ghost use Rattle.rules.specs.Carving.{receivers};
 ghost use Rattle.rules.specs.FirstWays.{basin, firstReceiver};
-ghost use Rattle.rules.specs.Network.{order, wet};
 ghost use Rattle.stages.specs.Worked.{Found, outputs, Room, Worked};
 ghost use Rattle.tiles.specs.Tile.{HasOutlet, Tile, tileLand};
 ghost use Rattle.walk.specs.Walk.{Linkage};

@@ -2,11 +2,10 @@
 -- Assumes nothing.
 use mathlib.Core.List.{List, map}
 use mathlib.Core.Path.{_≡_}
-use Prim.Native.Nat.{ℕ, _*_, _+_, _<_, _≤_}
+use Prim.Native.Nat.{ℕ, _*_, _+_, _≤_}
 use lib.ListN.{length}
 use Rattle.lists.specs.Lent.{overwrite, stored}
-use Rattle.lists.specs.Lists.{at}
-use Rattle.rules.specs.Ground.{dropped}
+use Rattle.rules.specs.Ground.{dropped, Lifted}
 use Rattle.text.specs.Text.{cellLines}
 
 -- there is room for `new` from index `from` on
@@ -39,7 +38,7 @@ pub record Printable (w h : ℕ) (receivers levels drainage marks water text : L
   pub drainage-full : length drainage ≡ h * w
   pub marks-full : length marks ≡ h * w
   pub water-full : length water ≡ h * w
-  pub levels-lifted : (c : ℕ) → c < length levels → at levels c ≤ 16000000
+  pub levels-lifted : Lifted levels
   pub room : mostText ≤ length text
 
 -- `new` was printed into the first n bytes of a lent list; every byte past them is as it was

@@ -6,13 +6,12 @@ use Prim.Native.Nat.{ℕ, _<_}
 use native.Mathlib.Omega.{arith}
 use lib.ListN.{drop, length, length-append, take, take-append-drop}
 use lib.Seq.{drop-at, drop-set-lt, length-take-le}
-use Rattle.lists.proofs.Entries.{keep-all}
 use Rattle.lists.proofs.Members.{mem-keep}
-use Rattle.lists.proofs.Ranges.{length-range, mem-upto}
+use Rattle.lists.proofs.Ranges.{mem-upto}
 use Rattle.lists.proofs.Tables.{tab-is}
 use Rattle.lists.specs.Lists.{at, filled, keep, tab, upto, _∈_}
-use Rattle.rules.proofs.Orders.{mem-order, order-length, order-mem}
-use Rattle.rules.specs.FirstWays.{solidCells}
+use Rattle.rules.proofs.Orders.{mem-order, order-mem}
+use Rattle.rules.proofs.WholeOrders.{order-whole}
 use Rattle.rules.specs.Land.{Land}
 use Rattle.rules.specs.Network.{level, order, outlets}
 use Rattle.tiles.specs.Tile.{tileLand}
@@ -51,8 +50,7 @@ module _ (w : ℕ) (heights marks links r : List ℕ) (K : Linkage w heights mar
 
   -- a tile without holes: every cell is in the order
   order-full : length (order L r) ≡ n
-  unfolding solidCells
-  order-full = order-length L r (K .drains) ∙ ap length (keep-all (L .solid) (upto n) (λ x m. refl)) ∙ length-range n 0
+  order-full = order-whole L r (K .drains) (λ c h. refl)
 
   receivers-full : tab n (at r) ≡ r
   receivers-full = tab-is (at r) r n 0 (K .drains .full) (λ k h. refl)

@@ -8,9 +8,9 @@ use borrow.Author.Needs.{needs}
 use Rattle.askvimur.proofs.Answers.{record-written, writable}
 use Rattle.ground.proofs.Acceptance.{good-few}
 use Rattle.ground.specs.Record.{groundIn}
-use Rattle.record_network.proofs.Taken.{taken}
+use Rattle.network.proofs.Taken.{taken}
 use Rattle.rules.specs.Ground.{cellsOf}
-use Rattle.stages.specs.Worked.{Outputs, outputs}
+use Rattle.stages.specs.Worked.{outputs, Outputs}
 use Rattle.askvimur.proofs.write_record.Statement.{statement}
 use Rattle.askvimur.proofs.write_record.Tie as tie
 

@@ -11,8 +11,9 @@ use lib.ListN.{length}
 use borrow.Author.Needs.{needs}
 use Rattle.crossings.proofs.Adding.{adds-all, adds-both, adds-length, adds-most, below-all, below-next, below-none}
 use Rattle.crossings.proofs.Adding.{key-most, keysBelow}
-use Rattle.crossings.proofs.Sides.{column-next, lower-within, right-within}
+use Rattle.crossings.proofs.Sides.{lower-within, right-within}
 use Rattle.crossings.specs.Listing.{Adds}
+use Rattle.lists.proofs.GridSides.{column-next}
 use Rattle.crossings.proofs.list_crossings.Statement.{statement}
 use Rattle.crossings.proofs.list_crossings.Tie as tie
 

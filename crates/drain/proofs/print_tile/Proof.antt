@@ -10,9 +10,9 @@ use borrow.Author.Needs.{needs}
 use Rattle.drain.proofs.Printing.{printable, text-is, water-taken}
 use Rattle.ground.proofs.Acceptance.{good-few}
 use Rattle.ground.specs.Record.{groundIn}
+use Rattle.network.proofs.Taken.{Taken, taken}
 use Rattle.record_network.proofs.Reading.{marks-are}
-use Rattle.record_network.proofs.Taken.{taken, Taken}
-use Rattle.stages.specs.Worked.{Outputs, outputs}
+use Rattle.stages.specs.Worked.{outputs, Outputs}
 use Rattle.text.specs.Writing.{Printed}
 use Rattle.drain.proofs.print_tile.Statement.{statement}
 use Rattle.drain.proofs.print_tile.Tie as tie

@@ -11,7 +11,8 @@ use Rattle.ground.proofs.Acceptance.{good-few}
 use Rattle.ground.specs.Record.{groundOfLists}
 use Rattle.lists.proofs.Fill.{length-tab}
 use Rattle.network.proofs.Grounds.{good-outlet, good-tile, raised-full, raised-taken}
-use Rattle.network.proofs.Networks.{levels-droppable, levels-taken, network-written}
+use Rattle.network.proofs.Networks.{levels-droppable, network-written, worked-land}
+use Rattle.network.proofs.Taken.{taken}
 use Rattle.rules.specs.Carving.{receivers}
 use Rattle.rules.specs.Ground.{cellsOf}
 use Rattle.rules.specs.Land.{land4}
@@ -128,7 +129,7 @@ drop-levels-requires c κs =
     let s = outputs (a .receivers .now) (a .basins .now) (a .order .now) (replicate 4096 0) (a .drained .now) (a .wet .now) in
     let W =
     subst (λ (l : List ℕ). Worked (tileLand (a .width) l (a .marks .now)) (a .water .now) s (after (c .before .before .before .before .before .before .before .before .before .before .before .before .before))) t (c .before .before .before .before .before .before .before .before .before .before .before .before .before .work-out .ensures) in
-    let q = levels-taken g G n z W in
+    let q = taken g G s n z (worked-land g G W) .levels-taken in
     let m : length (take n (c .before .before .before .before .before .before .before .before .before .before .before .before .before .work-out .last .1 .1 .1 .1 .1 .1 .1 .0)) ≡ cellsOf g = ap length q ∙ length-tab (level (land4 g) (receivers (land4 g))) (cellsOf g) in
     (omega (arith, m, st .pre .1), levels-droppable g G q)
 
@@ -163,7 +164,7 @@ returns c =
     let s = outputs (a .receivers .now) (a .basins .now) (a .order .now) (replicate 4096 0) (a .drained .now) (a .wet .now) in
     let W =
     subst (λ (l : List ℕ). Worked (tileLand (a .width) l (a .marks .now)) (a .water .now) s (after (c .before .before .before .before .before .before .before .before .before .before .before .before .before .before .before))) t (c .before .before .before .before .before .before .before .before .before .before .before .before .before .before .before .work-out .ensures) in
-    let q = levels-taken g G n z W in
+    let q = taken g G s n z (worked-land g G W) .levels-taken in
     network-written g G s (a .levels .now) W q (c .before .drop-levels .ensures)
 
 pub fill-spec : {M : Type 1} → statement M

@@ -1,9 +1,9 @@
--- `first::next_column` meets its contract. The two arms of the test.
+-- `tiles::next_column` meets its contract. The two arms of the test.
 -- Assumes nothing.
 use borrow.Author.Needs.{needs}
 use borrow.Author.Tests.{le-ltb, lt-ltb}
-use Rattle.first.proofs.next_column.Statement.{statement}
-use Rattle.first.proofs.next_column.Tie as tie
+use Rattle.tiles.proofs.next_column.Statement.{statement}
+use Rattle.tiles.proofs.next_column.Tie as tie
 
 add-if1 : tie.Need-add-if1
 add-if1 c = search needs

@@ -9,7 +9,7 @@ use Rattle.ground.specs.Good.{Good}
 use Rattle.lists.proofs.Fill.{length-tab}
 use Rattle.lists.proofs.Tables.{map-tab}
 use Rattle.lists.specs.Lists.{filled, tab}
-use Rattle.network.proofs.Networks.{drains, levels-taken, order-whole}
+use Rattle.network.proofs.Networks.{drains, whole-order}
 use Rattle.rules.specs.Carving.{receivers}
 use Rattle.rules.specs.FirstWays.{basin}
 use Rattle.rules.specs.Ground.{cellsOf, dropped, Ground}
@@ -43,7 +43,7 @@ module _ (g : Ground) (G : Good g) where
       record {
         receivers-taken = front r (s .receiver-list) N n z (drains g G .full) (W .receivers-are);
         basins-taken = front (tab N (basin L)) (s .basin-list) N n z (length-tab (basin L) N) (W .basins-are);
-        order-taken = front (order L r) (s .order-list) N n z (order-whole g G) (W .order-is);
+        order-taken = front (order L r) (s .order-list) N n z (whole-order g G) (W .order-is);
         levels-taken = front (tab N (level L r)) (s .level-list) N n z (length-tab (level L r) N) (W .levels-are);
         drainage-taken = front (tab N (drainage L (g .water) r)) (s .drainage-list) N n z (length-tab (drainage L (g .water) r) N) (W .drainage-is);
         wet-taken = front (tab N (wet L r)) (s .wet-list) N n z (length-tab (wet L r) N) (W .wet-is);
