@@ -17,5 +17,6 @@ pub mod library;
 mod linked;
 pub mod mutants;
 pub mod outlets;
+mod piped;
 pub mod reliefs;
 pub mod tally;
