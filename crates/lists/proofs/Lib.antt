@@ -16,3 +16,4 @@ pub mod Entries
 pub mod GridSides
 pub mod Sorting
 pub mod Crossings
+pub mod Determined

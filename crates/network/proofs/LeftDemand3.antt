@@ -1,20 +1,19 @@
 -- Demand 3 holds of what a network call leaves in the lent lists of any accepted tile.
 -- Assumes nothing.
-use mathlib.Core.Bool.{Bool}
 use mathlib.Core.List.{List}
 use mathlib.Core.Path.{ap, subst, sym, _∙_, _≡_}
 use Prim.Native.Nat.{ℕ}
+use lib.Dec.{leb}
 use lib.IntN.{ℤ}
 use lib.ListN.{drop, length, take}
 use lib.Seq.{take-at}
 use Rattle.ground.proofs.Acceptance.{lists-accepted}
 use Rattle.ground.specs.Good.{Good}
-use Rattle.ground.specs.Judge.{judgeLists}
 use Rattle.lists.proofs.Fill.{length-tab}
 use Rattle.lists.specs.Lists.{tab}
 use Rattle.network.proofs.Grounds.{good-drainable}
 use Rattle.network.proofs.Networks.{drains}
-use Rattle.network.specs.Call.{left, LentLists, written}
+use Rattle.network.specs.Call.{LentLists, Outcome, shortestOf, written}
 use Rattle.network.specs.Left.{LeftDemand3}
 use Rattle.rules.proofs.Demand3Holds.{tile-demand-3}
 use Rattle.rules.specs.Carving.{receivers}
@@ -22,7 +21,6 @@ use Rattle.rules.specs.Demand3.{Demand3}
 use Rattle.rules.specs.Ground.{cellsOf, dropped, Ground}
 use Rattle.rules.specs.Land.{land4}
 use Rattle.rules.specs.Network.{drainage, level, network, networkOf}
-use Rattle.ground.specs.declared.Judged.{Judged}
 use Rattle.ground.specs.declared.Judged.the-variants.{Accepted}
 
 written-demand-3 : (g : Ground) → Good g → {s : LentLists} (before : LentLists) → s ≡ written (network g) before → LeftDemand3 g s
@@ -45,8 +43,7 @@ written-demand-3 g G {s} before e =
       drainage-left = w ∙ ap (λ (x : List ℕ). tab n (drainage L (g .water) x)) (sym a);
     }
 
--- the two hypotheses are what the contract of `network` says of an accepted tile
-pub call-demand-3 : (room : ℕ → Bool) (g : Ground) {w h : ℕ} {s : LentLists} (before : LentLists) → judgeLists room g ≡ Accepted w h
-    → s ≡ left (judgeLists room g) (network g) before → LeftDemand3 g s
-call-demand-3 room g {w} {h} {s} before q e =
-    written-demand-3 g (lists-accepted room g q .good) before (e ∙ ap (λ (j : Judged). left j (network g) before) q)
+-- for any outcome of a tile that is accepted
+pub call-demand-3 : (g : Ground) (before : LentLists) {w h : ℕ} {after : LentLists} → Outcome g before (Accepted w h) after → LeftDemand3 g after
+call-demand-3 g before o =
+    written-demand-3 g (lists-accepted (λ n. leb n (shortestOf before)) g (sym (o .answer)) .good) before (o .lists)

@@ -3,3 +3,4 @@ pub mod Grounds
 pub mod Networks
 pub mod Taken
 pub mod LeftDemand3
+pub mod OneOutcome

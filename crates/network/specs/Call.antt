@@ -1,12 +1,15 @@
 -- What a network call leaves in the six lent lists.
 -- Assumes nothing.
 use mathlib.Core.List.{List}
+use mathlib.Core.Path.{_≡_}
 use Prim.Native.Nat.{min, ℕ}
+use lib.Dec.{leb}
 use lib.IntN.{ℤ}
 use lib.ListN.{length}
-use Rattle.ground.specs.Judge.{leaves}
+use Rattle.ground.specs.Judge.{judgeLists, leaves}
 use Rattle.lists.specs.Lent.{overwrite}
-use Rattle.rules.specs.Network.{Network}
+use Rattle.rules.specs.Ground.{Ground}
+use Rattle.rules.specs.Network.{Network, network}
 use Rattle.ground.specs.declared.Judged.{Judged}
 
 -- the six lent lists; levels are signed
@@ -52,3 +55,8 @@ left judged net s =
       drainage-of = leaves judged (net .drainageList) (s .drainage-of);
       wet-of = leaves judged (net .wetList) (s .wet-of);
     }
+
+-- the outcome of a call on a ground: the answer, and the six lists before and after it
+pub record Outcome (g : Ground) (before : LentLists) (r : Judged) (after : LentLists) : Type 0 where
+  pub answer : r ≡ judgeLists (λ n. leb n (shortestOf before)) g
+  pub lists : after ≡ left r (network g) before

@@ -3,12 +3,10 @@
 ghost use mathlib.Core.List.{map, _++_};
 ghost use mathlib.Core.Path.{_≡_};
 ghost use Prim.Native.Nat.{_*_, _≤_};
-ghost use lib.Dec.{leb};
 ghost use lib.ListN.{drop, length};
 ghost use Rattle.ground.specs.Good.{Good};
-ghost use Rattle.ground.specs.Judge.{judgeLists};
 ghost use Rattle.ground.specs.Record.{groundOfLists};
-ghost use Rattle.network.specs.Call.{left, lentLists, shortestOf, written};
+ghost use Rattle.network.specs.Call.{lentLists, Outcome, shortestOf, written};
 ghost use Rattle.network.specs.Lifting.{InRange};
 ghost use Rattle.rules.specs.Ground.{dropped, lifted, Lifted};
 ghost use Rattle.rules.specs.Network.{network};
@@ -127,7 +125,7 @@ pub fn network(
         let after =
         lentLists (now (receivers .exit)) (now (basins .exit)) (now (order .exit)) (now (levels .exit)) (now (drained .exit))
         (now (wet .exit)) in
-        ⌜ (r ≡ judgeLists (λ n. leb n (shortestOf before)) g) × (after ≡ left r (network g) before) ⌝ }
+        ⌜ Outcome g before r after ⌝ }
 {
     let room = Room {
         each: 1,

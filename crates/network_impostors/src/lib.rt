@@ -1,11 +1,7 @@
 // Impostors of the network call. `draw` promises what `network::network` promises, and hands on to it. Each must-fail edit puts an
 // impostor in its place: each impostor is safe and keeps a promise of its own, and the promise of `draw` shuts it out.
-ghost use mathlib.Core.Path.{_≡_};
-ghost use lib.Dec.{leb};
-ghost use Rattle.ground.specs.Judge.{judgeLists};
 ghost use Rattle.ground.specs.Record.{groundOfLists};
-ghost use Rattle.network.specs.Call.{left, lentLists, shortestOf};
-ghost use Rattle.rules.specs.Network.{network};
+ghost use Rattle.network.specs.Call.{lentLists, Outcome};
 use ground::Judged;
 
 mod own_receiver; // own_receiver.rt: each cell is its own receiver
@@ -35,7 +31,7 @@ pub fn draw(
         let after =
         lentLists (now (receivers .exit)) (now (basins .exit)) (now (order .exit)) (now (levels .exit)) (now (drained .exit))
         (now (wet .exit)) in
-        ⌜ (r ≡ judgeLists (λ n. leb n (shortestOf before)) g) × (after ≡ left r (network g) before) ⌝ }
+        ⌜ Outcome g before r after ⌝ }
 {
     network::network(
         width,

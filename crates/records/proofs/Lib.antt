@@ -3,3 +3,4 @@ pub mod Reading
 pub mod WhatWasWritten
 pub mod WhatWasRead
 pub mod RoundTrips
+pub mod OneOutcome

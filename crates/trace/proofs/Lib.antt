@@ -1,3 +1,4 @@
 pub mod Steps
 pub mod Ring
 pub mod Answers
+pub mod Forbidden

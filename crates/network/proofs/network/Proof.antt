@@ -69,7 +69,7 @@ same-length-6 : tie.Need-same-length-6
 same-length-6 c = search needs
 
 returns : tie.Need-returns
-returns c = (sym (c .before .judged .given .1) ∙ judged-at (c .before .before .before), refl)
+returns c = record { answer = sym (c .before .judged .given .1) ∙ judged-at (c .before .before .before); lists = refl }
 
 same-length-7 : tie.Need-same-length-7
 same-length-7 c = search needs
@@ -92,7 +92,10 @@ same-length-12 c = search needs
 returns-2 : tie.Need-returns-2
 returns-2 c =
     let m = c .before .before .before .before .before .before .before .before .before .before .before .before .before .before .before .before .before .before .before in
-    (sym (m .judged2 .given .1) ∙ judged-at (m .before .before), c .before .before .before .before .before .before .before .before .before .before .before .fill .ensures)
+    record {
+      answer = sym (m .judged2 .given .1) ∙ judged-at (m .before .before);
+      lists = c .before .before .before .before .before .before .before .before .before .before .before .fill .ensures;
+    }
 
 pub network-spec : {M : Type 1} → statement M
 network-spec =
