@@ -10,13 +10,11 @@ use lib.Dec.{eqb}
 use lib.ListN.{length, length-append}
 use Rattle.basins.specs.Jumps.{FirstReceivers, oneIf, singularBelow, Within}
 use Rattle.lists.proofs.Entries.{filled-again, filled-at, filled-same}
-use Rattle.lists.proofs.Fill.{filled-length}
 use Rattle.lists.proofs.Ranges.{keep-append, keep-same, mem-upto, range-split}
 use Rattle.lists.specs.Lists.{at, filled, keep, range, upto, _∈_}
 use Rattle.rules.proofs.FirstReceivers.{singularOf-below}
 use Rattle.rules.specs.FirstWays.{basin, firstReceiver, singular, singularOf}
 use Rattle.rules.specs.Land.{Land}
-use Rattle.tiles.specs.Tile.{Tile, tileLand}
 
 pub one-or-none : (b : Bool) → oneIf b ≤ 1
 one-or-none true = omega arith
@@ -70,19 +68,3 @@ module _ (L : Land) (n : ℕ) (entries : List ℕ) (F : FirstReceivers L n entri
           ap (at numbers) (ap (λ (l : List ℕ). at l c) b ∙ filled-at (singularOf L) n entries c h)
           ∙ ap (λ (l : List ℕ). at l (singularOf L c)) a ∙ filled-at (singularBelow entries) n old (singularOf L c) (singular-in c h)
           ∙ below-basin c h
-
--- what rule 1's stage leaves of a tile is what rule 2's stage asks for
-pub tile-firsts : (w : ℕ) (heights marks old entries : List ℕ) → Tile w heights marks → length heights ≤ length old
-    → entries ≡ filled (firstReceiver (tileLand w heights marks)) (length heights) old
-    → FirstReceivers (tileLand w heights marks) (length heights) entries
-tile-firsts w heights marks old entries T room e =
-    record {
-      cells = refl;
-      few = T .few;
-      room =
-          let a : length entries ≡ length old =
-          ap length e ∙ filled-length (firstReceiver (tileLand w heights marks)) (length heights) old room in
-          omega arith;
-      firsts = λ c h. ap (λ (l : List ℕ). at l c) e ∙ filled-at (firstReceiver (tileLand w heights marks)) (length heights) old c h;
-      whole = λ c h. refl;
-    }

@@ -12,15 +12,16 @@ use lib.Dec.{eqb, ltb}
 use lib.ListN.{length}
 use borrow.Author.Tests.{eq-eqb, lt-ltb, ltb-true}
 use Rattle.crossings.specs.Listing.{crossingKeysAt, keyBetween, keyIf, lowerOf, rightOf}
-use Rattle.lists.proofs.GridSides.{downward, in-column, in-row, leftward, right-on, rightward, sharing, Sharing, Towards}
-use Rattle.lists.proofs.GridSides.{towards-column, towards-row, upward}
+use Rattle.lists.proofs.GridSides.{downward, leftward, right-on, rightward, Towards}
+use Rattle.lists.proofs.GridSides.{upward}
 use Rattle.lists.proofs.Members.{keep-mem, mem-keep}
 use Rattle.lists.proofs.Ranges.{keep-append, mem-upto, upto-mem}
 use Rattle.lists.proofs.Sorted.{cons, nil, Sorted, sorted-keep, sorted-range, sorted-same}
 use Rattle.lists.proofs.Tests.{and-both, and-left, and-right, is, isnt, known, Known}
 use Rattle.lists.specs.Lists.{at, keep, upto, _∈_}
-use Rattle.rules.proofs.TileLawful.{column, row, Side, side→, →side}
+use Rattle.rules.proofs.TileLawful.{Side, side→, →side}
 use Rattle.rules.specs.Land.{shareSide}
+use Rattle.tiles.proofs.Sides.{side-towards, towards-side}
 
 -- a greater cell that shares a side
 data Greater (w a b : ℕ) : Type 0 where
@@ -28,12 +29,8 @@ data Greater (w a b : ℕ) : Type 0 where
   lower : b ≡ a + w → Greater w a b
 
 greater-side : (w a b : ℕ) → 0 < w → a < b → Side w a b → Greater w a b
-greater-side w a b h l s = go (towards s)
+greater-side w a b h l s = go (side-towards w a b h s)
   where
-    towards : Side w a b → Towards w a b
-    towards (row e f) = towards-row w a b h e f
-    towards (column e f) = towards-column w a b e f
-
     go : Towards w a b → Greater w a b
     go (upward k e) = absurd (omega arith)
     go (leftward k e) = absurd (omega arith)
@@ -41,15 +38,8 @@ greater-side w a b h l s = go (towards s)
     go (downward e) = lower e
 
 side-greater : (w a b : ℕ) → 0 < w → Greater w a b → Side w a b
-side-greater w a b h g = go (sharing w a b h (towards g))
-  where
-    towards : Greater w a b → Towards w a b
-    towards (right k e) = rightward k e
-    towards (lower e) = downward e
-
-    go : Sharing w a b → Side w a b
-    go (in-row e f) = row e f
-    go (in-column e f) = column e f
+side-greater w a b h (right k e) = towards-side w a b h (rightward k e)
+side-greater w a b h (lower e) = towards-side w a b h (downward e)
 
 module _ (w n : ℕ) (wide : 0 < w) (whole : n % w ≡ 0) (basins : List ℕ) where
   -- a and b lie in different basins

@@ -10,14 +10,15 @@ use native.Mathlib.Nat.{mod-lt}
 use native.Mathlib.Omega.{arith}
 use lib.Dec.{leb, ltb}
 use borrow.Author.Tests.{le-leb, leb-true, lt-ltb, ltb-true}
-use Rattle.lists.proofs.GridSides.{downward, in-column, in-row, leftward, right-on, rightward, sharing, Sharing, Towards}
-use Rattle.lists.proofs.GridSides.{towards-column, towards-row, upward}
+use Rattle.lists.proofs.GridSides.{downward, leftward, right-on, rightward, Towards}
+use Rattle.lists.proofs.GridSides.{upward}
 use Rattle.lists.proofs.Members.{keep-mem, mem-keep}
 use Rattle.lists.proofs.Ranges.{mem-upto, upto-mem}
 use Rattle.lists.proofs.Sorted.{cons, nil, Sorted, sorted-keep, sorted-range, sorted-same}
 use Rattle.lists.specs.Lists.{keep, upto, _∈_}
-use Rattle.rules.proofs.TileLawful.{column, row, Side, side→, →side}
+use Rattle.rules.proofs.TileLawful.{side→, →side}
 use Rattle.rules.specs.Land.{shareSide}
+use Rattle.tiles.proofs.Sides.{side-towards, towards-side}
 
 -- x alone, where t holds
 abbrev pub one : Bool → ℕ → List ℕ
@@ -34,18 +35,6 @@ one-mem false x e q = absurd (false≢true e)
 sorted-one : (t : Bool) (k x : ℕ) (l : List ℕ) → (t ≡ true → k ≤ x) → (t ≡ true → Sorted (suc x) l) → Sorted k l → Sorted k (one t x ++ l)
 sorted-one true k x l h s r = cons (h refl) (s refl)
 sorted-one false k x l h s r = r
-
--- sharing a side, by number
-pub side-towards : (w a b : ℕ) → 0 < w → Side w a b → Towards w a b
-side-towards w a b h (row e f) = towards-row w a b h e f
-side-towards w a b h (column e f) = towards-column w a b e f
-
-towards-side : (w a b : ℕ) → 0 < w → Towards w a b → Side w a b
-towards-side w a b h t = go (sharing w a b h t)
-  where
-    go : Sharing w a b → Side w a b
-    go (in-row e f) = row e f
-    go (in-column e f) = column e f
 
 module _ (w n c : ℕ) where
   -- the cells above, left, right and below

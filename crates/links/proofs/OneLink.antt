@@ -11,7 +11,7 @@ use lib.Dec.{eqb, leb, ltb}
 use lib.ListN.{length, length-set, set}
 use lib.Seq.{getD-set-other, getD-set-same}
 use borrow.Author.Tests.{eq-eqb, eqb-true, le-leb, leb-true, lt-ltb, ltb-true, ne-eqb}
-use Rattle.first.proofs.Neighbours.{side-towards}
+use Rattle.tiles.proofs.Sides.{side-towards}
 use Rattle.links.specs.Linking.{areCells, greaterMask, lesserMask, linkedIn, Neighbours, withBit}
 use Rattle.lists.proofs.Entries.{filled-by}
 use Rattle.lists.proofs.GridSides.{downward, leftward, next-column, rightward, Towards, upward}

@@ -6,7 +6,7 @@ use Prim.Native.Nat.{ℕ, _+_, _<_, _≤_}
 use native.Mathlib.Nat.{add-zero, zero-add}
 use native.Mathlib.Omega.{arith}
 use lib.ListN.{drop, length, length-append, length-drop, set, take, take-append-drop}
-use lib.Seq.{length-take-le, take-at}
+use lib.Seq.{length-take-le}
 use Rattle.lists.proofs.Lent.{sets-stored, stored-next}
 use Rattle.lists.specs.Lent.{stored}
 use Rattle.text.specs.Writing.{Printed, Room, Wrote}
@@ -48,7 +48,3 @@ wrote-then {from} {middle} {to} {a} {b} {new} {old} {mid} {text} v w e =
 -- a text from the start on
 pub printed : {new old text : List ℕ} {to : ℕ} → Wrote 0 new old text to → Printed new old text to
 printed {new} w = record { bytes = w .bytes ∙ rw zero-add; counted = w .end ∙ zero-add (length new); within = w .within }
-
--- it is what stands there
-pub printed-text : {new old text : List ℕ} {n : ℕ} → Printed new old text n → take n text ≡ new
-printed-text {new} {old} {text} {n} p = rw (p .bytes) (take-at new (drop (length new) old) n (sym (p .counted)))
