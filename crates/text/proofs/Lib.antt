@@ -4,3 +4,4 @@ pub mod Lines
 pub mod Sums
 pub mod Lengths
 pub mod Balance
+pub mod Inputs
