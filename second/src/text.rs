@@ -11,8 +11,13 @@ use crate::refusal::Refusal;
 pub fn text(input: &[u8]) -> String {
     match judged(input) {
         Ok(ground) => network_text(&ground, &network(&ground)),
-        Err(refusal) => format!("refused {} {}\n", refusal.number(), refusal.place()),
+        Err(refusal) => refused(refusal),
     }
+}
+
+/// The line of a refusal.
+pub fn refused(refusal: Refusal) -> String {
+    format!("refused {} {}\n", refusal.number(), refusal.place())
 }
 
 /// Too long an input is refused before anything in it is judged.

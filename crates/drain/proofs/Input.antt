@@ -1,19 +1,16 @@
 -- What is printed for an input, by cases: too long, accepted, refused. And its first 28,689 bytes decide it.
 -- Assumes nothing.
 use mathlib.Core.List.{List}
-use mathlib.Core.Logic.{inl, inr, _⊎_}
 use mathlib.Core.Path.{ap, sym, _∙_, _≡_}
 use Prim.Native.Nat.{ℕ, _+_, _<_, _≤_}
-use native.Mathlib.Omega.{arith}
 use lib.ListN.{length, take}
-use lib.Seq.{length-take-le, take-all}
 use borrow.Author.Tests.{le-ltb, lt-ltb}
 use Rattle.drain.specs.Drain.{drainText, judgedText, mostInput}
 use Rattle.ground.proofs.Acceptance.{record-accepted}
 use Rattle.ground.specs.Judge.{anyRoom, judgeRecord, refusalNumber, refusalPlace}
 use Rattle.ground.specs.Record.{groundIn, groundOfRecord}
-use Rattle.lists.proofs.Tests.{lt-or-ge}
 use Rattle.record_network.proofs.Accepted.{named-ground}
+use Rattle.text.proofs.Inputs.{enough-read}
 use Rattle.text.specs.Text.{groundText, refusedText}
 use Rattle.ground.specs.declared.Judged.{Judged}
 use Rattle.ground.specs.declared.Judged.the-variants.{Accepted, Refused}
@@ -40,10 +37,4 @@ accepted-text s {w} {h} l e =
 
 -- one byte more than the largest record is enough to read
 pub drain-enough : (s : List ℕ) → drainText (take (mostInput + 1) s) ≡ drainText s
-drain-enough s = go (lt-or-ge mostInput (length s))
-  where
-    go : (mostInput < length s) ⊎ (length s ≤ mostInput) → drainText (take (mostInput + 1) s) ≡ drainText s
-    go (inl h) =
-        let e = length-take-le (mostInput + 1) s (omega arith) in
-        too-long (take (mostInput + 1) s) (omega arith) ∙ sym (too-long s h)
-    go (inr h) = ap drainText (take-all (mostInput + 1) s (omega arith))
+drain-enough = enough-read drainText mostInput (refusedText 2 0) too-long

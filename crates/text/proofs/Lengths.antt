@@ -3,7 +3,7 @@
 use mathlib.Core.List.{List, map, _++_}
 use mathlib.Core.Logic.{inl, inr, _⊎_}
 use mathlib.Core.Path.{ap, _≡_}
-use Prim.Native.Nat.{suc, zero, ℕ, _*_, _-_, _<_, _≤_}
+use Prim.Native.Nat.{suc, zero, ℕ, _*_, _+_, _-_, _<_, _≤_}
 use native.Mathlib.Numerals.{add-one}
 use native.Mathlib.Omega.{arith}
 use lib.ListN.{length, length-append}
@@ -12,10 +12,10 @@ use Rattle.lists.proofs.Tests.{lt-or-ge}
 use Rattle.lists.specs.Lists.{at, sum}
 use Rattle.rules.specs.Ground.{dropped}
 use Rattle.text.proofs.Digits.{length-decimal}
-use Rattle.text.proofs.Lines.{cellLines-lifted, cellLines-none, length-cellLine, length-refusedText, length-sizeLine}
+use Rattle.text.proofs.Lines.{cellLines-lifted, cellLines-none, length-cellLine, length-pairLine, length-refusedText, length-sizeLine}
 use Rattle.text.proofs.Lines.{length-sumsLine, level-above, level-below}
 use Rattle.text.proofs.Sums.{outletDrainage-most, sum-most}
-use Rattle.text.specs.Text.{cellLine, cellLines, outletDrainage, refusedText, signedDecimal, sizeLine, sumsLine, tileText}
+use Rattle.text.specs.Text.{cellLine, cellLines, outletDrainage, pairLine, refusedText, signedDecimal, sizeLine, sumsLine, tileText}
 use Rattle.text.specs.Writing.{mostText, Printable}
 
 -- 8,000,000 has seven digits, and a sign may stand before them
@@ -95,6 +95,13 @@ module _ (w h : ℕ) (r l d m water text : List ℕ) (P : Printable w h r l d m 
       let b = cells-fit in
       let c = sums-fit in
       omega (arith, simp length-append at (ap length whole))
+
+-- two numbers of 16 and of 32 bits
+pub pairLine-fits : (word : List ℕ) (a b : ℕ) → a < 65536 → b < 4294967296 → length (pairLine word a b) ≤ length word + 17
+pairLine-fits word a b h k =
+    let d = length-decimal 4 a (omega arith) in
+    let e = length-decimal 9 b (omega arith) in
+    omega (arith, length-pairLine word a b)
 
 -- a refusal of a number and a place of 16 bits
 pub refusedText-fits : (n p : ℕ) → n < 65536 → p < 65536 → length (refusedText n p) ≤ 20

@@ -4,4 +4,5 @@ pub mod Lines
 pub mod Sums
 pub mod Lengths
 pub mod Balance
+pub mod Inputs
 pub mod OneOutcome

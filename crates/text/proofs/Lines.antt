@@ -12,7 +12,7 @@ use Rattle.lists.proofs.Ranges.{range-split}
 use Rattle.lists.proofs.Tables.{getD-map}
 use Rattle.lists.specs.Lists.{at, flat, range, upto}
 use Rattle.rules.specs.Ground.{dropped}
-use Rattle.text.specs.Text.{cellLine, cellLines, decimal, refusedText, signedDecimal, sizeLine, sumsLine}
+use Rattle.text.specs.Text.{cellLine, cellLines, decimal, pairLine, refusedText, signedDecimal, sizeLine, sumsLine}
 
 -- digits and what follows them
 pub length-field : (n after : ℕ) → length (decimal n ++ (after ∷ [])) ≡ length (decimal n) + 1
@@ -29,6 +29,9 @@ level-above x h = rw (le-leb 8000000 x h)
 pub level-below : (x : ℕ) → x < 8000000 → signedDecimal (dropped x) ≡ 45 ∷ decimal (8000000 - x)
 unfolding signedDecimal
 level-below x h = rw (lt-leb 8000000 x h) (ap (λ (n : ℕ). 45 ∷ decimal n) (let e : suc (7999999 - x) ≡ 8000000 - x = omega arith in e))
+
+pub length-pairLine : (word : List ℕ) (a b : ℕ) → length (pairLine word a b) ≡ length word + length (decimal a) + length (decimal b) + 2
+length-pairLine word a b = simp length-append (omega arith)
 
 pub length-sizeLine : (w h : ℕ) → length (sizeLine w h) ≡ length (decimal w) + length (decimal h) + 7
 unfolding sizeLine

@@ -1,7 +1,7 @@
 -- Texts written one after the other.
 -- Assumes nothing.
 use mathlib.Core.List.{[], append-assoc, List, _++_, _∷_}
-use mathlib.Core.Path.{ap, refl, sym, _∙_, _≡_}
+use mathlib.Core.Path.{ap, refl, subst, sym, _∙_, _≡_}
 use Prim.Native.Nat.{ℕ, _+_, _<_, _≤_}
 use native.Mathlib.Nat.{add-zero, zero-add}
 use native.Mathlib.Omega.{arith}
@@ -48,3 +48,11 @@ wrote-then {from} {middle} {to} {a} {b} {new} {old} {mid} {text} v w e =
 -- a text from the start on
 pub printed : {new old text : List ℕ} {to : ℕ} → Wrote 0 new old text to → Printed new old text to
 printed {new} w = record { bytes = w .bytes ∙ rw zero-add; counted = w .end ∙ zero-add (length new); within = w .within }
+
+-- what was printed was written from the start on
+pub wrote : {new old text : List ℕ} {to : ℕ} → Printed new old text to → Wrote 0 new old text to
+wrote {new} p = record { bytes = p .bytes ∙ rw zero-add; end = p .counted ∙ sym (zero-add (length new)); within = p .within }
+
+-- the same text by another name
+pub printed-same : {new same old text : List ℕ} {n : ℕ} → Printed new old text n → new ≡ same → Printed same old text n
+printed-same {new} {same} {old} {text} {n} p e = subst (λ (t : List ℕ). Printed t old text n) e p

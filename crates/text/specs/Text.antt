@@ -31,6 +31,10 @@ furtherFields (f ∷ fs) = 32 ∷ (f ++ furtherFields fs)
 abbrev pub line : List ℕ → List (List ℕ) → List ℕ
 line f fs = f ++ furtherFields fs
 
+-- a word, with the space that follows it, and two numbers
+abbrev pub pairLine : List ℕ → ℕ → ℕ → List ℕ
+pairLine word first second = word ++ line (decimal first) (decimal second ∷ [])
+
 -- the words "tile", "out", "of" and "refused"
 abbrev pub tileWord : List ℕ
 tileWord = 116 ∷ 105 ∷ 108 ∷ 101 ∷ []

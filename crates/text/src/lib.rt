@@ -1,5 +1,5 @@
 // The text that `drain` prints (document 01), for a tile and for a refusal, as bytes in a lent list: specs/Text.antt says which.
-// Only reading and writing are left to the program. These are leaves: callers show that there is room, as `Printable` says.
+// Only reading and writing are left to the program. These are leaves: callers show that there is room, as `Printable` says of a tile.
 ghost use mathlib.Core.Bool.{cond};
 ghost use mathlib.Core.List.{[], map, _++_, _∷_};
 ghost use mathlib.Core.Path.{_≡_};
@@ -8,8 +8,8 @@ ghost use lib.Dec.{eqb};
 ghost use lib.ListN.{length};
 ghost use Rattle.lists.specs.Lists.{at, sum};
 ghost use Rattle.rules.specs.Ground.{dropped};
-ghost use Rattle.text.specs.Text.{cellLine, cellLines, decimal, outletDrainage, refusedText, signedDecimal};
-ghost use Rattle.text.specs.Text.{sizeLine, sumsLine, tileText};
+ghost use Rattle.text.specs.Text.{cellLine, cellLines, decimal, outletDrainage, pairLine, refusedText};
+ghost use Rattle.text.specs.Text.{signedDecimal, sizeLine, sumsLine, tileText};
 ghost use Rattle.text.specs.Writing.{CellRoom, Printable, Printed, Room, Wrote};
 use kinds::Cell;
 
@@ -57,6 +57,16 @@ fn write_word(text: &mut [u8], from: usize, word: &[u8]) -> usize
 {
     little::write_section_u8(text, from, word);
     from + word.len()
+}
+
+// A line from the text's start on: a word, with the space that follows it, and two numbers.
+pub fn write_pair(text: &mut [u8], word: &[u8], first: u16, second: u32) -> usize
+    requires { ⌜ Room 0 (pairLine (now word) first second) (now text) ⌝ }
+    ensures { λ r. ⌜ Printed (pairLine (now (word .entry)) first second) (now (text .entry)) (now (text .exit)) r ⌝ }
+{
+    let from = write_word(text, 0, word);
+    let middle = write_number(text, from, first as u64, b' ');
+    write_number(text, middle, second as u64, b'\n')
 }
 
 // The line of a cell: number, receiver, level, drainage.
@@ -151,9 +161,7 @@ fn write_size(text: &mut [u8], width: u16, height: u16) -> usize
     requires { ⌜ Room 0 (sizeLine width height) (now text) ⌝ }
     ensures { λ r. ⌜ Wrote 0 (sizeLine width height) (now (text .entry)) (now (text .exit)) r ⌝ }
 {
-    let second = write_word(text, 0, b"tile ");
-    let third = write_number(text, second, width as u64, b' ');
-    write_number(text, third, height as u64, b'\n')
+    write_pair(text, b"tile ", width, height as u32)
 }
 
 // The last line: the sum of the outlets' drainage, the sum of the water.
@@ -198,7 +206,5 @@ pub fn write_refused(text: &mut [u8], number: u16, place: u16) -> usize
     requires { ⌜ 20 ≤ length (now text) ⌝ }
     ensures { λ r. ⌜ Printed (refusedText number place) (now (text .entry)) (now (text .exit)) r ⌝ }
 {
-    let second = write_word(text, 0, b"refused ");
-    let third = write_number(text, second, number as u64, b' ');
-    write_number(text, third, place as u64, b'\n')
+    write_pair(text, b"refused ", number, place as u32)
 }

@@ -5,13 +5,14 @@ use std::path::PathBuf;
 /// How the program is called.
 pub const USAGE: &str = "\
 usage: compare [--seed N] [--cases N] [--progress] [--name-each]
-               [--exhaustive | --drain PROGRAM | --mutants]
+               [--exhaustive | --drain PROGRAM | --follow PROGRAM | --mutants]
   --seed N         another seed gives other records (1)
-  --cases N        how many calls to compare, or inputs with --drain
+  --cases N        how many calls to compare, or inputs with --drain or --follow
   --progress       say on the error output how far the run is
   --name-each      name each record before it is tried, to find one that ends the program
   --exhaustive     only every 3 by 3 tile over three heights with one outlet
   --drain PROGRAM  only the text of this drain program
+  --follow PROGRAM only the text of this follow program
   --mutants        only how soon each wrong library is caught";
 
 /// What a run does.
@@ -20,6 +21,7 @@ pub enum Mode {
     Everything,
     Exhaustive,
     Drain(PathBuf),
+    Follow(PathBuf),
     Mutants,
 }
 
@@ -52,15 +54,18 @@ impl Arguments {
                 "--name-each" => arguments.name_each = true,
                 "--exhaustive" => arguments.mode = Mode::Exhaustive,
                 "--mutants" => arguments.mode = Mode::Mutants,
-                "--drain" => {
-                    let program = words.next().ok_or("--drain needs a program")?;
-                    arguments.mode = Mode::Drain(PathBuf::from(program));
-                }
+                "--drain" => arguments.mode = Mode::Drain(program(&word, words.next())?),
+                "--follow" => arguments.mode = Mode::Follow(program(&word, words.next())?),
                 _ => return Err(format!("unknown argument {word}")),
             }
         }
         Ok(arguments)
     }
+}
+
+fn program(name: &str, word: Option<String>) -> Result<PathBuf, String> {
+    let word = word.ok_or(format!("{name} needs a program"))?;
+    Ok(PathBuf::from(word))
 }
 
 fn number(name: &str, word: Option<String>) -> Result<u64, String> {
@@ -91,12 +96,15 @@ mod tests {
         assert_eq!(found, wanted);
         assert_eq!(read("").unwrap().mode, Mode::Everything);
         assert_eq!(read("--exhaustive").unwrap().mode, Mode::Exhaustive);
+        let follow = Mode::Follow(PathBuf::from("./follow"));
+        assert_eq!(read("--follow ./follow").unwrap().mode, follow);
     }
 
     #[test]
     fn a_wrong_argument_is_named() {
         assert!(read("--seed x").unwrap_err().contains("--seed"));
         assert!(read("--cases").unwrap_err().contains("--cases"));
+        assert!(read("--follow").unwrap_err().contains("--follow"));
         assert!(read("--fast").unwrap_err().contains("--fast"));
     }
 }

@@ -1,5 +1,5 @@
 //! The comparison harness: generated records, the library under test, the second program,
-//! and every byte that either of them leaves.
+//! and every byte that either of them leaves; and the programs' texts on generated inputs.
 
 pub mod arguments;
 pub mod cases;
@@ -11,6 +11,7 @@ pub mod difference;
 pub mod drain_run;
 pub mod exhaustive;
 pub mod families;
+pub mod follow_run;
 pub mod lending;
 pub mod library;
 #[cfg(feature = "linked")]
@@ -18,5 +19,7 @@ mod linked;
 pub mod mutants;
 pub mod outlets;
 mod piped;
+pub mod program_run;
+pub mod questions;
 pub mod reliefs;
 pub mod tally;

@@ -9,10 +9,13 @@ use compare::arguments::{Arguments, Mode, USAGE};
 use compare::cases::{specimen, ROOMS};
 use compare::comparison::compare;
 use compare::difference::Difference;
-use compare::drain_run::{compare_program, DEFAULT_INPUTS};
+use compare::drain_run::{DEFAULT_INPUTS, DRAIN};
+use compare::exhaustive;
+use compare::follow_run::{Answers, DEFAULT_QUESTIONS, FOLLOW};
 use compare::library::{self, under_test};
+use compare::mutants::{self, following};
+use compare::program_run::{compare_program, Task};
 use compare::tally::Tally;
-use compare::{exhaustive, mutants};
 
 /// How many calls a run compares when nothing else is asked for.
 const DEFAULT_CASES: u64 = 100_000;
@@ -35,6 +38,7 @@ fn main() -> ExitCode {
         Mode::Everything => everything(&arguments),
         Mode::Exhaustive => every_3_by_3(&arguments),
         Mode::Drain(program) => drain(&arguments, program),
+        Mode::Follow(program) => follow(&arguments, program),
         Mode::Mutants => mutants(&arguments),
     };
     match good {
@@ -89,43 +93,84 @@ fn compare_every_3_by_3(tally: &mut Tally, progress: &mut Progress) {
 
 /// The text of a drain program.
 fn drain(arguments: &Arguments, program: &Path) -> bool {
-    let seed = arguments.seed;
     let inputs = arguments.cases.unwrap_or(DEFAULT_INPUTS);
+    let differences = run_program(arguments, program, &DRAIN, inputs, |_| ());
+    differences.is_some_and(|differences| last_line(inputs + 1, differences))
+}
+
+/// The text of a follow program, and how often each kind of answer came.
+fn follow(arguments: &Arguments, program: &Path) -> bool {
+    let questions = arguments.cases.unwrap_or(DEFAULT_QUESTIONS);
+    let mut answers = Answers::default();
+    let count = |wanted: &str| answers.count(wanted);
+    let Some(differences) = run_program(arguments, program, &FOLLOW, questions, count) else {
+        return false;
+    };
+    println!("{answers}");
+    let mut rare = answers.too_rare();
+    rare.retain(|_| questions >= DEFAULT_QUESTIONS);
+    for kind in &rare {
+        println!("{kind} came too rarely for a default run");
+    }
+    last_line(questions + 1, differences) && rare.is_empty()
+}
+
+/// Compares a program's text on so many inputs and on one endless input more, and tells `seen`
+/// each wanted text. The answer is how many differ, if the program can be run.
+fn run_program(
+    arguments: &Arguments,
+    program: &Path,
+    task: &Task,
+    inputs: u64,
+    mut seen: impl FnMut(&str),
+) -> Option<u64> {
+    let seed = arguments.seed;
     println!("comparing {}, seed {seed}", program.display());
     let mut progress = Progress::new(arguments, inputs);
-    match compare_program(program, seed, inputs, |done, differing| {
-        progress.say(done, differing)
-    }) {
+    let each = |wanted: &str, done, differing| {
+        seen(wanted);
+        progress.say(done, differing);
+    };
+    match compare_program(program, task, seed, inputs, each) {
         Ok(differences) => {
             for difference in differences.iter().take(MOST_PRINTED as usize) {
                 println!("{difference}");
             }
-            // The endless input is one case more.
-            last_line(inputs + 1, differences.len() as u64)
+            Some(differences.len() as u64)
         }
         Err(error) => {
             println!("{} can't be run: {error}", program.display());
-            false
+            None
         }
     }
 }
 
-/// How soon each wrong library is caught. One that isn't caught is a fault of the harness.
+/// How soon each wrong library and each wrong `follow` text is caught. One that isn't caught is a
+/// fault of the harness.
 fn mutants(arguments: &Arguments) -> bool {
+    let seed = arguments.seed;
     let most = arguments.cases.unwrap_or(mutants::MOST_CASES);
-    let mut missed = 0;
     println!("{:<60}{:>8}", "wrong library", "cases");
-    for mutant in mutants::all() {
-        match mutants::caught_after(mutant.library, arguments.seed, most) {
-            Some(cases) => println!("{:<60}{cases:>8}", mutant.name),
-            None => {
-                missed += 1;
-                println!("{:<60}{:>8}", mutant.name, "missed");
-            }
-        }
-    }
-    println!("mutants: {} tried, {missed} missed", mutants::all().len());
+    let libraries = mutants::all().into_iter().map(|mutant| {
+        let caught = mutants::caught_after(mutant.library, seed, most);
+        print_caught(mutant.name, caught)
+    });
+    let mut caught: Vec<bool> = libraries.collect();
+    let most = arguments.cases.unwrap_or(DEFAULT_QUESTIONS);
+    println!("{:<60}{:>8}", "wrong text of follow", "cases");
+    caught.extend(following::WRONG_TEXTS.iter().map(|wrong| {
+        let caught = following::caught_after(wrong.text, seed, most);
+        print_caught(wrong.name, caught)
+    }));
+    let missed = caught.iter().filter(|&&caught| !caught).count();
+    println!("mutants: {} tried, {missed} missed", caught.len());
     missed == 0
+}
+
+fn print_caught(name: &str, after: Option<u64>) -> bool {
+    let cases = after.map_or("missed".to_string(), |cases| cases.to_string());
+    println!("{name:<60}{cases:>8}");
+    after.is_some()
 }
 
 fn print_difference(difference: Option<Difference>, tally: &Tally) {

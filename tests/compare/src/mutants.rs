@@ -11,6 +11,7 @@ macro_rules! with {
     };
 }
 
+pub mod following;
 mod judging;
 mod network;
 mod writing;

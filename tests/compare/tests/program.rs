@@ -31,6 +31,16 @@ fn a_difference_gives_status_1() {
 }
 
 #[test]
+fn questions_are_counted_by_their_answers() {
+    let follow = env!("CARGO_BIN_EXE_stand-in-follow");
+    let output = run(&["--follow", follow, "--cases", "230"]);
+    assert_eq!(last_line(&output), "compare: 231 cases, 0 differences");
+    assert_eq!(output.status.code(), Some(0));
+    let text = String::from_utf8_lossy(&output.stdout);
+    assert!(text.contains("refused 8: 6"), "{text}");
+}
+
+#[test]
 fn a_wrong_argument_gives_status_2() {
     assert_eq!(run(&["--fast"]).status.code(), Some(2));
 }

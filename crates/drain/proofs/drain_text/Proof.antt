@@ -1,15 +1,14 @@
 -- `drain::drain_text` meets its contract: input too long, an accepted record and a refused one, each by its law.
 -- Assumes nothing.
-use mathlib.Core.List.{List}
-use mathlib.Core.Path.{ap, subst, sym, _∙_}
+use mathlib.Core.Path.{ap, sym, _∙_}
 use Prim.Native.Nat.{ℕ}
 use borrow.Author.Needs.{needs}
 use Rattle.drain.proofs.Input.{accepted-text, refused-text, too-long}
 use Rattle.ground.proofs.Acceptance.{record-accepted}
 use Rattle.ground.specs.Judge.{anyRoom, refusalNumber}
 use Rattle.record_network.proofs.Accepted.{good-here, long-here}
+use Rattle.text.proofs.Writing.{printed-same}
 use Rattle.text.specs.Text.{refusedText}
-use Rattle.text.specs.Writing.{Printed}
 use Rattle.drain.proofs.drain_text.Statement.{statement}
 use Rattle.drain.proofs.drain_text.Tie as tie
 
@@ -22,7 +21,7 @@ same-length c = search needs
 returns : tie.Need-returns
 returns c =
     let a = c .before .before .before .before .before .before .before .args in
-    subst (λ (t : List ℕ). Printed t (a .text .now) (c .before .before .write-refused .last .0) (c .before .before .write-refused .result)) (sym (too-long (a .bytes .now) (c .before .before .before .before .if1 .taken))) (c .before .before .write-refused .ensures)
+    printed-same (c .before .before .write-refused .ensures) (sym (too-long (a .bytes .now) (c .before .before .before .before .if1 .taken)))
 
 check-record-requires : tie.Need-check-record-requires
 check-record-requires c κs = search needs
@@ -57,8 +56,8 @@ returns-2 : tie.Need-returns-2
 returns-2 c =
     let a = c .before .before .before .before .before .before .before .before .before .before .before .args in
     let e = sym (c .before .before .before .before .before .before .before .check-record .ensures) ∙ c .before .before .before .before .before .judged .given .1 in
-    subst (λ (t : List ℕ). Printed t (a .text .now) (c .before .before .print-tile .last .1 .1 .1 .0) (c .before .before .print-tile .result))
-    (sym (accepted-text (a .bytes .now) (c .before .before .before .before .before .before .before .before .if1 .left) e)) (c .before .before .print-tile .ensures)
+    printed-same (c .before .before .print-tile .ensures)
+    (sym (accepted-text (a .bytes .now) (c .before .before .before .before .before .before .before .before .if1 .left) e))
 
 same-length-3 : tie.Need-same-length-3
 same-length-3 c = search needs
@@ -70,8 +69,8 @@ returns-3 c =
     let e = sym (c .before .before .before .before .before .before .before .before .before .check-record .ensures) ∙ c .before .before .before .before .before .before .before .judged2 .given .1 in
     let f =
     ap (λ (n : ℕ). refusedText n (c .before .before .before .place .result)) (c .before .before .before .before .number .ensures) ∙ ap (refusedText (refusalNumber (why .0))) (c .before .before .before .place .ensures) in
-    subst (λ (t : List ℕ). Printed t (a .text .now) (c .before .before .write-refused2 .last .0) (c .before .before .write-refused2 .result))
-    (f ∙ sym (refused-text (a .bytes .now) (c .before .before .before .before .before .before .before .before .before .before .if1 .left) e)) (c .before .before .write-refused2 .ensures)
+    printed-same (c .before .before .write-refused2 .ensures)
+    (f ∙ sym (refused-text (a .bytes .now) (c .before .before .before .before .before .before .before .before .before .before .if1 .left) e))
 
 pub drain-text-spec : {M : Type 1} → statement M
 drain-text-spec =

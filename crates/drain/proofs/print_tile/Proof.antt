@@ -1,7 +1,7 @@
 -- `drain::print_tile` meets its contract: the network of the record stands in the lists, and the text is that of its first N entries.
 -- Assumes nothing.
 use mathlib.Core.List.{List}
-use mathlib.Core.Path.{subst, sym, _≡_}
+use mathlib.Core.Path.{sym, _≡_}
 use Prim.Native.Nat.{ℕ, _≤_}
 use native.Mathlib.Omega.{arith}
 use lib.ListN.{length, replicate, take}
@@ -13,7 +13,7 @@ use Rattle.ground.specs.Record.{groundIn}
 use Rattle.network.proofs.Taken.{Taken, taken}
 use Rattle.record_network.proofs.Reading.{marks-are}
 use Rattle.stages.specs.Worked.{outputs, Outputs}
-use Rattle.text.specs.Writing.{Printed}
+use Rattle.text.proofs.Writing.{printed-same}
 use Rattle.drain.proofs.print_tile.Statement.{statement}
 use Rattle.drain.proofs.print_tile.Tie as tie
 
@@ -143,8 +143,7 @@ returns c =
     let n = m .before .before .before .before .before .before .before .before .cells in
     let marks = marks-are s (a .width) (a .height) G (n .result) (n .ensures) in
     let water = water-taken g G (replicate 4096 0) (n .result) (n .ensures) (m .record-network .ensures .0) in
-    subst (λ (t : List ℕ). Printed t (a .text .now) (c .before .before .write-tile .last .0) (c .before .before .write-tile .result))
-    (text-is g G (taken-network m) marks water) (c .before .before .write-tile .ensures)
+    printed-same (c .before .before .write-tile .ensures) (text-is g G (taken-network m) marks water)
 
 pub print-tile-spec : {M : Type 1} → statement M
 print-tile-spec =
