@@ -1,6 +1,8 @@
-# To be sourced, from the top of the repository: how what links the library is built and run on this machine.
-# The library is for x86-64. Elsewhere Debian's cross compiler builds what links it, and the emulator runs it that comes with the prover.
+# To be sourced, from the top of the repository: how programs are built and run on this machine.
+# The prover builds programs and the library for x86-64. Elsewhere the emulator runs them that comes with the prover, and Debian's cross
+# compiler builds what links the library.
 #   native              yes where such a program runs on the processor itself: only then do times say anything
+#   starter NAME        the path of what starts a program of the repository; the program is proved and built first where it isn't there
 #   $cc, $cxx           the C and the C++ compiler for x86-64
 #   on_x86_64 PROGRAM   runs a program that they built
 #   build_library       proves and builds target/staticlib/libaskvimur.a, where the one that is there is older than the proof
@@ -14,11 +16,29 @@ else
   native=no
   cc=x86_64-linux-gnu-gcc
   cxx=x86_64-linux-gnu-g++
-  emulator=$(dirname "$(dirname "$(rt doc)")")/on/$(uname -m)/toolchain/bin/qemu-x86_64
+  kit=$(dirname "$(dirname "$(rt doc)")")/on/$(uname -m)/toolchain
   # A plain processor: with a newer one the C library fills memory by an instruction that is slow to emulate.
-  emulated=("$emulator" -cpu qemu64 -L /usr/x86_64-linux-gnu)
-  on_x86_64() { "${emulated[@]}" "$@"; }
+  emulator="$kit/bin/qemu-x86_64 -cpu qemu64"
+  on_x86_64() { $emulator -L /usr/x86_64-linux-gnu "$@"; }
 fi
+
+# A script of one line, for what only runs under the emulator.
+write_starter() {
+  printf '#!/bin/sh\nexec %s\n' "$2" >"$1"
+  chmod +x "$1"
+}
+
+starter() {
+  local program=$PWD/target/bin/$1 start=$PWD/target/start-$1
+  [ -x "$program" ] || rt check "$1" >&2 || return 1
+  if [ "$native" = yes ]; then
+    echo "$program"
+  else
+    # The prover's own C library runs them, as it does in rt.
+    [ -x "$start" ] || write_starter "$start" "$emulator $kit/lib/ld-linux-x86-64.so.2 --library-path $kit/lib \"$program\""
+    echo "$start"
+  fi
+}
 
 build_library() {
   local said
@@ -36,8 +56,7 @@ reach_library() {
   else
     "$cxx" -std=c++20 -O2 -Wall -Wextra -Werror -Iinclude tests/compare/emulated/call.cpp target/staticlib/libaskvimur.a \
       -o target/call || return 1
-    printf '#!/bin/sh\nexec %s "%s"\n' "${emulated[*]}" "$PWD/target/call" >target/call-emulated
-    chmod +x target/call-emulated
-    export ASKVIMUR_CALL=$PWD/target/call-emulated
+    write_starter target/start-call "$emulator -L /usr/x86_64-linux-gnu \"$PWD/target/call\""
+    export ASKVIMUR_CALL=$PWD/target/start-call
   fi
 }

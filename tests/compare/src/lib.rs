@@ -18,6 +18,7 @@ pub mod library;
 mod linked;
 pub mod mutants;
 pub mod outlets;
+#[cfg(not(feature = "linked"))]
 mod piped;
 pub mod program_run;
 pub mod questions;

@@ -24,7 +24,8 @@ pub fn is_named() -> bool {
 /// Makes the call there. A byte that is altered without having been lent ends the comparison.
 pub fn network(ground: &[u8], network: &mut [u8]) -> u32 {
     static PIPE: OnceLock<Mutex<Pipe>> = OnceLock::new();
-    let pipe = PIPE.get_or_init(|| Mutex::new(started().expect("the program behind the pipe starts")));
+    let pipe =
+        PIPE.get_or_init(|| Mutex::new(started().expect("the program behind the pipe starts")));
     let (answer, kept) = pipe
         .lock()
         .expect("no call before this one panicked")
