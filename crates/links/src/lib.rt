@@ -4,7 +4,7 @@
 ghost use mathlib.Core.Bool.{Bool, _&&_};
 ghost use mathlib.Core.Path.{_≡_};
 ghost use Prim.Native.Nat.{ℕ, _%_, _+_, _-_, _<_, _≤_};
-ghost use lib.Dec.{leb, ltb};
+ghost use lib.Dec.{eqb, leb, ltb};
 ghost use lib.ListN.{length};
 ghost use Rattle.crossings.specs.Keys.{greaterCell, lesserCell};
 ghost use Rattle.links.specs.Linking.{Carvable, CellsOf, firstLinked, greaterMask, lesserMask, linkedIf};
@@ -16,19 +16,22 @@ use crossings::lesser_cell;
 use kinds::Cell;
 use tiles::next_column;
 
-// The weight where one of two cells is the other's first receiver, otherwise 0.
+// 1 for equal cells, 0 for others.
+fn one_if_same(a: u16, b: u16) -> u8
+    ensures { λ r. ⌜ (r ≡ weigh (eqb a b) 1) × (r ≤ 1) ⌝ }
+{
+    if a == b { 1 } else { 0 }
+}
+
+// The weight where one of two cells is the other's first receiver, otherwise 0. Both tests are made before either is looked at: on
+// rough ground no processor can guess their outcome, and a sum needs no guess.
 fn weight_if_linked(receivers: &[u16], c: Cell, d: Cell, weight: u8) -> u8
     requires { ⌜ (c .0 < length (now receivers)) × (d .0 < length (now receivers)) ⌝ }
     ensures { λ r. ⌜ (r ≡ weigh (firstLinked (now (receivers .entry)) (c .0) (d .0)) weight) × (r ≤ weight) ⌝ }
 {
-    if receivers[c.0 as usize] == d.0 {
-        return weight;
-    }
-    if receivers[d.0 as usize] == c.0 {
-        weight
-    } else {
-        0
-    }
+    let receives = one_if_same(receivers[c.0 as usize], d.0);
+    let gives = one_if_same(receivers[d.0 as usize], c.0);
+    if receives + gives == 0 { 0 } else { weight }
 }
 
 // The bit for the neighbour above c.
