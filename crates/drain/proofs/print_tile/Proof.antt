@@ -26,7 +26,9 @@ few-at c l e =
     omega arith
 
 -- so that its first N entries are N
-taken-at : (c : tie.After-record-network) (l : List ℕ) → length l ≡ 4096 → c .before .before .before .before .before .before .before .before .cells .result ≡ length (take (c .before .before .before .before .before .before .before .before .cells .result) l)
+taken-at : (c : tie.After-record-network) (l : List ℕ) → length l ≡ 4096
+    → let n = c .before .before .before .before .before .before .before .before .cells .result in
+    n ≡ length (take n l)
 taken-at c l e = sym (length-take-le (c .before .before .before .before .before .before .before .before .cells .result) l (few-at c l e))
 
 -- what the network left in the lists

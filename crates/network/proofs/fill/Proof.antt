@@ -25,7 +25,8 @@ use Rattle.network.proofs.fill.Tie as tie
 -- what the stages left
 abbrev after : tie.After-work-out → Outputs
 after c =
-    outputs (c .work-out .last .1 .1 .1 .1 .0) (c .work-out .last .1 .1 .1 .1 .1 .0) (c .work-out .last .1 .1 .1 .1 .1 .1 .0) (c .work-out .last .1 .1 .1 .1 .1 .1 .1 .0) (c .work-out .last .1 .1 .1 .1 .1 .1 .1 .1 .0) (c .work-out .last .1 .1 .1 .1 .1 .1 .1 .1 .1 .0)
+    let lists = c .work-out .last .1 .1 .1 .1 in
+    outputs (lists .0) (lists .1 .0) (lists .1 .1 .0) (lists .1 .1 .1 .0) (lists .1 .1 .1 .1 .0) (lists .1 .1 .1 .1 .1 .0)
 
 cells-requires : tie.Need-cells-requires
 cells-requires c κs = search needs

@@ -17,7 +17,9 @@ use Rattle.network.proofs.network.Tie as tie
 -- the answer, and what it says where it is an acceptance
 judged-at : (c : tie.After-judge-lists)
     → let a = c .before .before .before .before .before .before .before .before .before .before .before .before .before .before .before .args in
-    c .judge-lists .result ≡ judgeLists (λ n. leb n (shortestOf (lentLists (a .receivers .now) (a .basins .now) (a .order .now) (a .levels .now) (a .drained .now) (a .wet .now)))) (groundOfLists (a .width) (a .height) (a .heights .now) (a .marks .now) (a .water .now))
+    let lent = lentLists (a .receivers .now) (a .basins .now) (a .order .now) (a .levels .now) (a .drained .now) (a .wet .now) in
+    let g = groundOfLists (a .width) (a .height) (a .heights .now) (a .marks .now) (a .water .now) in
+    c .judge-lists .result ≡ judgeLists (λ n. leb n (shortestOf lent)) g
 judged-at c =
     let a = c .before .before .before .before .before .before .before .before .before .before .before .before .before .before .before .args in
     c .judge-lists .ensures ∙ lists-room (groundOfLists (a .width) (a .height) (a .heights .now) (a .marks .now) (a .water .now)) (λ n. room-is n (c .before .shortest .ensures))

@@ -18,8 +18,10 @@ write-flow-requires c κs = search needs
 
 write-water-requires : tie.Need-write-water-requires
 write-water-requires c κs =
-    let p = c .before .before .before .before .before .before .before .before .before .before .before .before .before .pre in
-    let n : c .before .before .before .before .before .cells .result ≡ c .before .before .before .before .before .before .before .before .before .before .before .before .before .args .height * c .before .before .before .before .before .before .before .before .before .before .before .before .before .args .width = c .before .before .before .before .before .cells .ensures .0 in
+    let start = c .before .before .before .before .before .before .before .before .before .before .before .before .before in
+    let cells = c .before .before .before .before .before .cells in
+    let p = start .pre in
+    let n : cells .result ≡ start .args .height * start .args .width = cells .ensures .0 in
     (search needs, p .levels-full ∙ sym n, p .drainage-full ∙ sym n, p .wet-full ∙ sym n, search needs, p .levels-lifted)
 
 mul-write-trailer : tie.Need-mul-write-trailer

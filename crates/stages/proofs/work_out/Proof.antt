@@ -37,8 +37,9 @@ slice-aggregate-walk-links c = search needs
 
 -- the masks say the network's links
 linkage : (c : tie.After-link-cells)
-    → Linkage (c .before .before .before .before .before .before .before .before .before .before .before .before .before .before .before .before .before .before .before .before .args .w) (c .before .before .before .before .before .before .before .before .before .before .before .before .before .before .before .before .before .before .before .before .args .heights .now) (c .before .before .before .before .before .before .before .before .before .before .before .before .before .before .before .before .before .before .before .before .args .marks .now) (c .link-cells .last .1 .1 .1 .1 .1 .0)
-    (receivers (tileLand (c .before .before .before .before .before .before .before .before .before .before .before .before .before .before .before .before .before .before .before .before .args .w) (c .before .before .before .before .before .before .before .before .before .before .before .before .before .before .before .before .before .before .before .before .args .heights .now) (c .before .before .before .before .before .before .before .before .before .before .before .before .before .before .before .before .before .before .before .before .args .marks .now)))
+    → let a = c .before .before .before .before .before .before .before .before .before .before .before .before .before .before .before .before .before .before .before .before .args in
+    Linkage (a .w) (a .heights .now) (a .marks .now) (c .link-cells .last .1 .1 .1 .1 .1 .0)
+    (receivers (tileLand (a .w) (a .heights .now) (a .marks .now)))
 linkage c = c .link-cells .ensures
 
 walk-links-requires : tie.Need-walk-links-requires
