@@ -33,7 +33,9 @@ taken-at c l e = sym (length-take-le (c .before .before .before .before .before 
 
 -- what the network left in the lists
 abbrev after : tie.After-record-network → Outputs
-after c = let m = c .record-network in outputs (m .last .1 .1 .1 .1 .0) (m .last .1 .1 .1 .1 .1 .0) (m .last .1 .1 .1 .1 .1 .1 .0) (m .last .1 .1 .1 .1 .1 .1 .1 .0) (m .last .1 .1 .1 .1 .1 .1 .1 .1 .0) (m .last .1 .1 .1 .1 .1 .1 .1 .1 .1 .0)
+after c =
+    let lists = c .record-network .last .1 .1 .1 .1 in
+    outputs (lists .0) (lists .1 .0) (lists .1 .1 .0) (lists .1 .1 .1 .0) (lists .1 .1 .1 .1 .0) (lists .1 .1 .1 .1 .1 .0)
 
 taken-network : (c : tie.After-record-network)
     → let st = c .before .before .before .before .before .before .before .before .before .before .before in

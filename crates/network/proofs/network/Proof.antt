@@ -26,8 +26,10 @@ judged-at c =
 
 accepted-at : (c : tie.After-judged2)
     → let a = c .before .before .before .before .before .before .before .before .before .before .before .before .before .before .before .before .before .args in
-    let g = c .judged2 .given .0 in
-    AcceptedLists (λ n. leb n (shortestOf (lentLists (a .receivers .now) (a .basins .now) (a .order .now) (a .levels .now) (a .drained .now) (a .wet .now)))) (groundOfLists (a .width) (a .height) (a .heights .now) (a .marks .now) (a .water .now)) (g .0) (g .1 .0)
+    let lent = lentLists (a .receivers .now) (a .basins .now) (a .order .now) (a .levels .now) (a .drained .now) (a .wet .now) in
+    let g = groundOfLists (a .width) (a .height) (a .heights .now) (a .marks .now) (a .water .now) in
+    let size = c .judged2 .given .0 in
+    AcceptedLists (λ n. leb n (shortestOf lent)) g (size .0) (size .1 .0)
 accepted-at c =
     let a = c .before .before .before .before .before .before .before .before .before .before .before .before .before .before .before .before .before .args in
     lists-accepted (λ n. leb n (shortestOf (lentLists (a .receivers .now) (a .basins .now) (a .order .now) (a .levels .now) (a .drained .now) (a .wet .now)))) (groundOfLists (a .width) (a .height) (a .heights .now) (a .marks .now) (a .water .now)) (sym (judged-at (c .before .before)) ∙ c .judged2 .given .1)

@@ -56,10 +56,11 @@ walk-links-requires c κs =
 
 -- what the walk leaves
 walk-left : (c : tie.After-walk-links)
-    → Walked (c .before .before .before .before .before .before .before .before .before .before .before .before .before .before .before .before .before .before .before .before .before .before .before .before .before .before .args .w) (c .before .before .before .before .before .before .before .before .before .before .before .before .before .before .before .before .before .before .before .before .before .before .before .before .before .before .args .heights .now) (c .before .before .before .before .before .before .before .before .before .before .before .before .before .before .before .before .before .before .before .before .before .before .before .before .before .before .args .marks .now)
-    (receivers (tileLand (c .before .before .before .before .before .before .before .before .before .before .before .before .before .before .before .before .before .before .before .before .before .before .before .before .before .before .args .w) (c .before .before .before .before .before .before .before .before .before .before .before .before .before .before .before .before .before .before .before .before .before .before .before .before .before .before .args .heights .now) (c .before .before .before .before .before .before .before .before .before .before .before .before .before .before .before .before .before .before .before .before .before .before .before .before .before .before .args .marks .now)))
-    (lent (c .before .before .before .before .before .before .before .before .before .before .before .before .before .before .before .before .before .before .before .before .before .before .before .before .before .before .args .order .now) (c .before .before .before .before .before .before .before .before .before .before .before .before .before .before .find-basins .last .1 .1 .1 .0) (c .before .before .before .before .before .before .before .before .before .before .before .before .before .before .before .before .before .before .before .before .before .before .before .before .before .before .args .levels .now))
-    (lent (c .walk-links .last .1 .1 .1 .1 .0) (c .walk-links .last .1 .1 .1 .1 .1 .0) (c .walk-links .last .1 .1 .1 .1 .1 .1 .0))
+    → let a = c .before .before .before .before .before .before .before .before .before .before .before .before .before .before .before .before .before .before .before .before .before .before .before .before .before .before .args in
+    let basins = c .before .before .before .before .before .before .before .before .before .before .before .before .before .before .find-basins .last .1 .1 .1 .0 in
+    let left = c .walk-links .last .1 .1 .1 .1 in
+    Walked (a .w) (a .heights .now) (a .marks .now) (receivers (tileLand (a .w) (a .heights .now) (a .marks .now)))
+    (lent (a .order .now) basins (a .levels .now)) (lent (left .0) (left .1 .0) (left .1 .1 .0))
 walk-left c =
     let a = c .before .before .before .before .before .before .before .before .before .before .before .before .before .before .before .before .before .before .before .before .before .before .before .before .before .before .args in
     c .walk-links .ensures (receivers (tileLand (a .w) (a .heights .now) (a .marks .now))) (linkage (c .before .before .before .before .before .before))
