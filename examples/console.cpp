@@ -17,6 +17,7 @@
 static char arrow(const askvimur::Network &network, std::size_t cell) {
   const std::size_t to = network.receiver(cell);
   if (to == cell) return ' ';
+  if (network.width() == 1) return to > cell ? 'v' : '^';
   if (to == cell + 1) return '>';
   if (to + 1 == cell) return '<';
   return to > cell ? 'v' : '^';
@@ -61,8 +62,10 @@ int main(int count, char **words) {
   const std::vector<std::uint8_t> ground((std::istreambuf_iterator<char>(file)), std::istreambuf_iterator<char>());
   const askvimur::Network network(ground);
   if (!network.answer().accepted()) {
-    std::printf("refused %u at %u: %s\n", static_cast<unsigned>(network.answer().number()),
-                static_cast<unsigned>(network.answer().place()), network.answer().reason());
+    const unsigned number = static_cast<unsigned>(network.answer().number());
+    std::printf("refused %u: %s", number, network.answer().reason());
+    if (number == ASKVIMUR_BAD_HEIGHT || number == ASKVIMUR_BAD_MARK) std::printf(", first in cell %u", static_cast<unsigned>(network.answer().place()));
+    std::printf("\n");
     return 1;
   }
   std::printf("%zu by %zu cells, %zu bytes\n", network.width(), network.height(), network.record().size());

@@ -1,6 +1,7 @@
 /* Askvimur: where water runs on a tile. One call, from a ground record to its network record.
  *
- * Compiles as C99 and later and as C++20. Link with libaskvimur.a, which `rt staticlib askvimur` writes; it needs no other library.
+ * Compiles as C99 and later and as C++; the C++ wrapper at its end is there from C++20 on. Link with libaskvimur.a, which
+ * `rt staticlib askvimur` writes; it needs no other library.
  *
  * WHAT IS PROMISED, AND BY WHOM
  *   Proved    For every ground record and every length of the network record: the answer, and every byte of the network record
@@ -8,6 +9,13 @@
  *             No read or write outside the two records, no overflow, no recursion along cells, and the call always returns.
  *   Tested    That the compiled call does what was proved: it is compared, byte for byte, with a second program in Rust.
  *   Assumed   What the caller owes, below. Nothing can check it from inside the call.
+ *
+ * THE GROUND RECORD
+ *   7N + 16 bytes, little-endian, no gaps. N is width times height, and a cell's number is row times width plus column, from 0.
+ *   heights   4 bytes each, signed, in 1/256 metre, -8,000,000 to 8,000,000
+ *   marks     1 byte each: 1 for an outlet, 0 for any other cell; at least one cell is an outlet
+ *   water     2 bytes each
+ *   trailer   width (2), height (2), then 7N, 3N and 2N (4 each): how far before the trailer heights, marks and water start
  *
  * WHAT THE CALLER OWES
  *   - ground and network are not null, not even where the length is 0 (an empty std::vector may have a null data(); the C++ wrapper
@@ -77,7 +85,7 @@ static inline const char *askvimur_reason(uint32_t number) {
   switch (number) {
     case ASKVIMUR_ACCEPTED: return "accepted";
     case ASKVIMUR_BAD_SIZE: return "width or height is 0 or above 64";
-    case ASKVIMUR_BAD_LENGTH: return "the ground record has not the length of its size";
+    case ASKVIMUR_BAD_LENGTH: return "the ground record is under 16 bytes, or not 7N + 16";
     case ASKVIMUR_NO_ROOM: return "the network record is too short";
     case ASKVIMUR_BAD_HEIGHT: return "a height is out of range";
     case ASKVIMUR_BAD_MARK: return "a mark is neither 0 nor 1";
@@ -137,7 +145,7 @@ static inline uint8_t askvimur_wet(const uint8_t *network, size_t cells, size_t 
 
 /* ---- C++ ---------------------------------------------------------------------------------------------------------------------- */
 
-#ifdef __cplusplus
+#if defined(__cplusplus) && __cplusplus >= 202002L
 #include <cstdint>
 #include <span>
 #include <vector>

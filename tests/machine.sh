@@ -2,7 +2,7 @@
 # The prover builds programs and the library for x86-64. Elsewhere the emulator runs them that comes with the prover, and Debian's cross
 # compiler builds what links the library.
 #   native              yes where such a program runs on the processor itself: only then do times say anything
-#   starter NAME        the path of what starts a program of the repository; the program is proved and built first where it isn't there
+#   starter NAME        the path of what starts a program of the repository; the program is proved and built first where it isn't up to date
 #   $cc, $cxx           the C and the C++ compiler for x86-64
 #   on_x86_64 PROGRAM   runs a program that they built
 #   build_library       proves and builds target/staticlib/libaskvimur.a, where the one that is there is older than the proof
@@ -29,13 +29,14 @@ write_starter() {
 }
 
 starter() {
-  local program=$PWD/target/bin/$1 start=$PWD/target/start-$1
-  [ -x "$program" ] || rt check "$1" >&2 || return 1
+  local program=$PWD/target/bin/$1 start=$PWD/target/start-$1 said
+  [ -x "$program" ] || echo "proving and building $1: some minutes" >&2
+  said=$(rt check "$1" 2>&1) || { echo "$said" >&2; return 1; }
   if [ "$native" = yes ]; then
     echo "$program"
   else
     # The prover's own C library runs them, as it does in rt.
-    [ -x "$start" ] || write_starter "$start" "$emulator $kit/lib/ld-linux-x86-64.so.2 --library-path $kit/lib \"$program\""
+    write_starter "$start" "$emulator $kit/lib/ld-linux-x86-64.so.2 --library-path $kit/lib \"$program\""
     echo "$start"
   fi
 }

@@ -1,4 +1,4 @@
--- Document 01, "How it is called": what the record call gives back and leaves.
+-- Document 01, "Numbers given back": what the record call gives back and leaves.
 -- Assumes nothing.
 use mathlib.Core.Bool.{Bool}
 use mathlib.Core.List.{List}

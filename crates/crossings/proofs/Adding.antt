@@ -12,9 +12,9 @@ use lib.ListN.{drop, length, length-append, set}
 use lib.Seq.{length-sets, sets, sets-eq}
 use borrow.Author.Tests.{eq-eqb, ne-eqb}
 use Rattle.crossings.proofs.Sides.{keys-at}
-use Rattle.crossings.specs.Listing.{Adds, crossingKeys, crossingKeysAt, keyBetween, keyIf, Listable, Lists, lowerOf}
+use Rattle.crossings.specs.Listing.{Adds, crossingKeys, crossingKeysAt, keyBetween, keyIf, Listable, Lists, belowOf}
 use Rattle.crossings.specs.Listing.{rightOf}
-use Rattle.lists.proofs.Crossings.{flat-next, sets-append}
+use Rattle.lists.proofs.Parts.{flat-next, sets-append}
 use Rattle.lists.specs.Lists.{at, flat, upto}
 
 pub adds-none : (keys : List ℕ) (n : ℕ) → Adds [] keys n keys n
@@ -77,7 +77,7 @@ module _ (w : ℕ) (heights basins : List ℕ) where
 
   pub below-next : 0 < w → length heights % w ≡ 0 → (c : ℕ) → c < length heights
       → keysBelow w heights basins (c + 1)
-      ≡ keysBelow w heights basins c ++ (keyIf heights basins c (rightOf w c) ++ keyIf heights basins c (lowerOf w (length heights) c))
+      ≡ keysBelow w heights basins c ++ (keyIf heights basins c (rightOf w c) ++ keyIf heights basins c (belowOf w (length heights) c))
   unfolding keysBelow
   below-next wide whole c h = flat-next (crossingKeysAt w heights basins) c ∙ rw (keys-at heights basins w wide whole c h)
 
@@ -87,7 +87,7 @@ module _ (w : ℕ) (heights basins : List ℕ) where
   below-most wide whole zero h = omega arith
   below-most wide whole (suc c) h =
       let r = keyIf heights basins c (rightOf w c) in
-      let l = keyIf heights basins c (lowerOf w (length heights) c) in
+      let l = keyIf heights basins c (belowOf w (length heights) c) in
       let e = ap length (ap (keysBelow w heights basins) (sym (add-one c)) ∙ below-next wide whole c h) in
       omega (
         arith,
@@ -95,7 +95,7 @@ module _ (w : ℕ) (heights basins : List ℕ) where
         length-append (keysBelow w heights basins c) (r ++ l),
         length-append r l,
         key-most heights basins c (rightOf w c),
-        key-most heights basins c (lowerOf w (length heights) c),
+        key-most heights basins c (belowOf w (length heights) c),
         below-most wide whole c (omega arith),
       )
 

@@ -6,7 +6,7 @@ use Prim.Native.Nat.{ℕ, _*_, _+_, _<_, _≤_}
 use native.Mathlib.Omega.{arith}
 use Rattle.crossings.proofs.KeyOrder.{small}
 use Rattle.crossings.specs.Keys.{cellPair, key, keyOf}
-use Rattle.lists.proofs.Crossings.{map-flat}
+use Rattle.lists.proofs.Parts.{map-flat}
 use Rattle.lists.proofs.Members.{mem-keep, mem-map}
 use Rattle.lists.proofs.Ranges.{mem-upto}
 use Rattle.lists.proofs.Sorting.{AscendingBy, Rising, rising-ascends, rising-flat, rising-keep, rising-map, rising-range}

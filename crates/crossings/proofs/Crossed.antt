@@ -9,7 +9,7 @@ use lib.ListN.{length}
 use borrow.Author.Tests.{eq-eqb, eqb-false, eqb-true, ne-eqb}
 use Rattle.crossings.specs.Keys.{keyOf}
 use Rattle.crossings.specs.Listing.{crossingKeys, crossingKeysAt, keyBetween}
-use Rattle.lists.proofs.Crossings.{map-flat}
+use Rattle.lists.proofs.Parts.{map-flat}
 use Rattle.lists.proofs.Members.{mem-keep}
 use Rattle.lists.proofs.Ranges.{at-tab, flat-same, keep-same, mem-upto}
 use Rattle.lists.proofs.Tests.{is, isnt, Known, known}

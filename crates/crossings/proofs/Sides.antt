@@ -11,7 +11,7 @@ use native.Mathlib.Omega.{arith}
 use lib.Dec.{eqb, ltb}
 use lib.ListN.{length}
 use borrow.Author.Tests.{eq-eqb, lt-ltb, ltb-true}
-use Rattle.crossings.specs.Listing.{crossingKeysAt, keyBetween, keyIf, lowerOf, rightOf}
+use Rattle.crossings.specs.Listing.{crossingKeysAt, keyBetween, keyIf, belowOf, rightOf}
 use Rattle.lists.proofs.GridSides.{downward, leftward, right-on, rightward, Towards}
 use Rattle.lists.proofs.GridSides.{upward}
 use Rattle.lists.proofs.Members.{keep-mem, mem-keep}
@@ -140,8 +140,8 @@ module _ (heights basins : List ℕ) where
       go (isnt p) = rw p (sym (key-self a))
 
   -- with the cell below, or none in the last row
-  lower-key : (w n a : ℕ) → keysWith a (keep (λ b. ltb b n) ((a + w) ∷ [])) ≡ keyIf heights basins a (lowerOf w n a)
-  unfolding lowerOf
+  lower-key : (w n a : ℕ) → keysWith a (keep (λ b. ltb b n) ((a + w) ∷ [])) ≡ keyIf heights basins a (belowOf w n a)
+  unfolding belowOf
   lower-key w n a = go (known (ltb (a + w) n))
     where
       go : Known (ltb (a + w) n) → keysWith a (keep (λ b. ltb b n) ((a + w) ∷ [])) ≡ keyIf heights basins a (cond (ltb (a + w) n) (a + w) a)
@@ -150,7 +150,7 @@ module _ (heights basins : List ℕ) where
 
   -- all keys whose lesser cell is a
   pub keys-at : (w : ℕ) → 0 < w → length heights % w ≡ 0 → (a : ℕ) → a < length heights
-      → crossingKeysAt w heights basins a ≡ keyIf heights basins a (rightOf w a) ++ keyIf heights basins a (lowerOf w (length heights) a)
+      → crossingKeysAt w heights basins a ≡ keyIf heights basins a (rightOf w a) ++ keyIf heights basins a (belowOf w (length heights) a)
   unfolding crossingKeysAt
   keys-at w wide whole a on =
       let d : ℕ → Bool = λ b. not (eqb (at basins a) (at basins b)) in
@@ -169,8 +169,8 @@ right-within n w a whole on = go (known (ltb (a % w + 1) w))
     go (is p) = rw p (right-on n w a whole on (ltb-true _ _ p))
     go (isnt p) = rw p on
 
-pub lower-within : (n w a : ℕ) → a < n → lowerOf w n a < n
-unfolding lowerOf
+pub lower-within : (n w a : ℕ) → a < n → belowOf w n a < n
+unfolding belowOf
 lower-within n w a on = go (known (ltb (a + w) n))
   where
     go : Known (ltb (a + w) n) → cond (ltb (a + w) n) (a + w) a < n

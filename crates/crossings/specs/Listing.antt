@@ -57,5 +57,5 @@ unfoldable pub rightOf : ℕ → ℕ → ℕ
 rightOf w a = cond (ltb (a % w + 1) w) (a + 1) a
 
 -- the cell below, or the cell itself in the last row
-unfoldable pub lowerOf : ℕ → ℕ → ℕ → ℕ
-lowerOf w n a = cond (ltb (a + w) n) (a + w) a
+unfoldable pub belowOf : ℕ → ℕ → ℕ → ℕ
+belowOf w n a = cond (ltb (a + w) n) (a + w) a

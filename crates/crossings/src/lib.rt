@@ -5,7 +5,7 @@ ghost use Prim.Native.Nat.{_%_, _<_, _≤_};
 ghost use lib.ListN.{length};
 ghost use Rattle.crossings.specs.Keys.{greaterCell, lesserCell};
 ghost use Rattle.crossings.specs.Listing.{Adds, crossingKeys, Keyable, keyBetween, keyIf, Listable, Lists};
-ghost use Rattle.crossings.specs.Listing.{lowerOf, rightOf};
+ghost use Rattle.crossings.specs.Listing.{belowOf, rightOf};
 use kinds::Cell;
 use tiles::next_column;
 
@@ -56,9 +56,9 @@ fn right_of(w: usize, col: usize, c: Cell) -> Cell
 }
 
 // The cell below c on a tile of n cells, or c itself in the last row.
-fn lower_of(w: usize, n: usize, c: Cell) -> Cell
+fn below_of(w: usize, n: usize, c: Cell) -> Cell
     requires { ⌜ (w ≤ 64) × (n ≤ 4096) × (c .0 < 4096) ⌝ }
-    ensures { λ r. ⌜ r .0 ≡ lowerOf w n (c .0) ⌝ }
+    ensures { λ r. ⌜ r .0 ≡ belowOf w n (c .0) ⌝ }
 {
     let below = c.0 as usize + w;
     if below < n { Cell(below as u16) } else { c }
@@ -75,7 +75,7 @@ pub fn list_crossings(w: usize, heights: &[u32], basins: &[u16], keys: &mut [u64
     while c < heights.len() {
         let a = Cell(c as u16);
         n = add_key(heights, basins, a, right_of(w, col, a), keys, n);
-        n = add_key(heights, basins, a, lower_of(w, heights.len(), a), keys, n);
+        n = add_key(heights, basins, a, below_of(w, heights.len(), a), keys, n);
         col = next_column(w, col);
         c += 1;
     }

@@ -7,7 +7,7 @@ use native.Mathlib.Omega.{arith}
 use lib.IntN.{pos, ℤ}
 use lib.ListN.{getD, length, length-append}
 use borrow.Author.Tests.{le-leb, lt-leb}
-use Rattle.lists.proofs.Crossings.{flat-append, flat-next}
+use Rattle.lists.proofs.Parts.{flat-append, flat-next}
 use Rattle.lists.proofs.Ranges.{range-split}
 use Rattle.lists.proofs.Tables.{getD-map}
 use Rattle.lists.specs.Lists.{at, flat, range, upto}

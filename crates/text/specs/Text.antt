@@ -1,4 +1,4 @@
--- Document 01, the program `drain`: the bytes that it prints for a network, and those for a refusal.
+-- Document 01, the program `drain`: the bytes that it prints for a network, and those for a refusal; `follow` takes its lines from here too.
 -- Assumes nothing.
 use mathlib.Core.Bool.{cond}
 use mathlib.Core.List.{[], List, map, _++_, _∷_}

@@ -1,4 +1,5 @@
-// The text that `drain` prints (document 01), for a tile and for a refusal, as bytes in a lent list: specs/Text.antt says which.
+// The text that `drain` prints (document 01), for a tile and for a refusal, and the lines that `follow` prints, as bytes in a lent list:
+// specs/Text.antt says which.
 // Only reading and writing are left to the program. These are leaves: callers show that there is room, as `Printable` says of a tile.
 ghost use mathlib.Core.Bool.{cond};
 ghost use mathlib.Core.List.{[], map, _++_, _∷_};

@@ -19,7 +19,7 @@ stepsOf (reached o s) = s
 stepsOf (stopped c s) = s
 stepsOf (refused n p) = 0
 
--- from cell 1 four steps lead to the outlet, and the impostor answers the budget, which is 9
-pub invented-steps : (a : TraceAnswer) → answerOf a ≡ trace receiversG 1 9 → a ≡ Outlet (asCell 5) 9 → ⊥
+-- from cell 1 four steps lead to the outlet, and the impostor answers the budget, which is 6
+pub invented-steps : (a : TraceAnswer) → answerOf a ≡ trace receiversG 1 6 → a ≡ Outlet (asCell 5) 6 → ⊥
 unfolding trace traceFrom
 invented-steps a said e = let f = ap stepsOf (ap answerOf (sym e) ∙ said) in omega (arith, f)

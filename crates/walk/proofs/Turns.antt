@@ -11,7 +11,7 @@ use native.Mathlib.Omega.{arith}
 use lib.ListN.{drop, length, length-append, set, take}
 use lib.Seq.{drop-at, getD-at, length-take-le, set-at, take-append-add, take-append-le}
 use Rattle.lists.proofs.Counts.{count-all}
-use Rattle.lists.proofs.Crossings.{flat-append}
+use Rattle.lists.proofs.Parts.{flat-append}
 use Rattle.lists.proofs.Ranges.{length-range}
 use Rattle.lists.specs.Lists.{at, flat, keep, upto, _∈_}
 use Rattle.rules.proofs.Levels.{level-receiver}

@@ -48,7 +48,7 @@ struct Lent {
     std::size_t start;
     std::vector<std::uint8_t> bytes;
 
-    Lent(std::size_t length, std::size_t turn) : start(watched + turn % 8), bytes(start + length + watched, 0xA5) {}
+    Lent(std::size_t length, std::size_t turn) : start(watched + (turn + turn / 8) % 8), bytes(start + length + watched, 0xA5) {}
 
     std::span<std::uint8_t> record() { return std::span(bytes).subspan(start, bytes.size() - start - watched); }
 

@@ -13,7 +13,7 @@ usage: compare [--seed N] [--cases N] [--progress] [--name-each]
   --exhaustive     only every 3 by 3 tile over three heights with one outlet
   --drain PROGRAM  only the text of this drain program
   --follow PROGRAM only the text of this follow program
-  --mutants        only how soon each wrong library is caught";
+  --mutants        only how soon each wrong library and each wrong text of follow is caught";
 
 /// What a run does.
 #[derive(Clone, Debug, PartialEq, Eq)]

@@ -59,17 +59,20 @@ fn judge_steps(ground: &Ground, receivers: &[usize]) -> Result<(), String> {
     Ok(())
 }
 
-/// From each cell the receivers lead to an outlet, over no cell twice,
-/// in no more steps than there are cells that aren't outlets.
+/// From each cell the receivers lead to an outlet, over no cell twice, in no more steps than there
+/// are cells that aren't outlets, and over no higher ground than any way has to have.
 fn judge_ways(ground: &Ground, receivers: &[usize]) -> Result<(), String> {
     let most_steps = ground.marks.iter().filter(|&&mark| mark == 0).count();
+    let least = least_highest_points(ground);
     let mut met_from = vec![usize::MAX; receivers.len()];
     for start in 0..receivers.len() {
         let (mut cell, mut steps) = (start, 0);
+        let mut highest = ground.heights[start];
         met_from[cell] = start;
         while ground.marks[cell] == 0 {
             cell = receivers[cell];
             steps += 1;
+            highest = highest.max(ground.heights[cell]);
             if met_from[cell] == start {
                 return Err(format!("the way of cell {start} meets cell {cell} twice"));
             }
@@ -77,6 +80,12 @@ fn judge_ways(ground: &Ground, receivers: &[usize]) -> Result<(), String> {
         }
         if steps > most_steps {
             return Err(format!("the way of cell {start} takes {steps} steps"));
+        }
+        if highest != least[start] {
+            let least = least[start];
+            return Err(format!(
+                "the way of cell {start} climbs to {highest}, and {least} is enough"
+            ));
         }
     }
     Ok(())
@@ -198,6 +207,13 @@ mod tests {
     fn a_leap_is_refused() {
         let leap = network([0, 5, 3, 4, 5, 5], LEVELS, DRAINAGE);
         assert!(judge(&ground(), &leap).unwrap_err().contains("receive to"));
+    }
+
+    #[test]
+    fn a_way_over_higher_ground_is_refused() {
+        let over_the_top = network([0, 0, 1, 2, 5, 5], LEVELS, DRAINAGE);
+        let wrong = judge(&ground(), &over_the_top).unwrap_err();
+        assert!(wrong.contains("climbs to 7, and 5 is enough"));
     }
 
     #[test]

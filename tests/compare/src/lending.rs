@@ -20,7 +20,7 @@ pub struct Lent {
 impl Lent {
     /// The record and a room filled with a pattern that the salt decides.
     pub fn new(record: &[u8], room: usize, salt: u64) -> Lent {
-        let before = WATCHED + (salt % 8) as usize;
+        let before = WATCHED + ((salt + salt / 8) % 8) as usize;
         let mut ground = pattern(before + record.len() + WATCHED, salt);
         ground[before..before + record.len()].copy_from_slice(record);
         Lent {

@@ -59,8 +59,8 @@ add-key-requires c κs =
     let m = adds-most (st .pre) i (lp .loop .inv .0) (lp .loop .inv .2) in
     (((t .few, t .low), st .pre .sized), (h, r, omega (arith, st .pre .room)))
 
-lower-of-requires : tie.Need-lower-of-requires Inv-loop μ-loop
-lower-of-requires c κs =
+below-of-requires : tie.Need-below-of-requires Inv-loop μ-loop
+below-of-requires c κs =
     let lp = c .before .before .before .before .before .before in
     let st = lp .before .before .before .before in
     let t = st .pre .tile in
@@ -80,8 +80,8 @@ add-key-requires-2 c κs =
     let e = adds-length (lp .loop .inv .2) in
     let f = one .add-key .kept .1 .1 .1 .1 .0 in
     let o = key-most (a .heights .now) (a .basins .now) i (right .right-of .result .0) in
-    let r : lower .lower-of .result .0 < length (a .heights .now) =
-    subst (λ (k : ℕ). k < length (a .heights .now)) (sym (lower .lower-of .ensures)) (lower-within _ (a .w) i h) in
+    let r : lower .below-of .result .0 < length (a .heights .now) =
+    subst (λ (k : ℕ). k < length (a .heights .now)) (sym (lower .below-of .ensures)) (lower-within _ (a .w) i h) in
     let m = adds-most (st .pre) i (lp .loop .inv .0) (lp .loop .inv .2) in
     (((t .few, t .low), st .pre .sized), (h, r, omega (arith, st .pre .room, one .add-key .ensures .after)))
 
@@ -115,7 +115,7 @@ loop-again c =
     let n = below-next (a .w) (a .heights .now) (a .basins .now) (t .wide) (t .whole) i h in (
       omega arith,
       c .next-column .ensures ∙ ap (λ (x : ℕ). cond (ltb (x + 1) (a .w)) (x + 1) 0) (lp .loop .inv .1) ∙ column-next (a .w) i (t .wide),
-      rw (n, ← right .right-of .ensures, ← lower .lower-of .ensures)
+      rw (n, ← right .right-of .ensures, ← lower .below-of .ensures)
           (adds-both (lp .loop .inv .2) (adds-both (one .add-key .ensures) (two .add-key2 .ensures))),
     )
 
@@ -142,7 +142,7 @@ list-crossings-spec =
     cast-t11
     right-of-requires
     add-key-requires
-    lower-of-requires
+    below-of-requires
     add-key-requires-2
     next-column-requires
     add-c
