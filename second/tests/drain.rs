@@ -1,9 +1,7 @@
-//! The printing program, run as a program: its text, and that it stops reading in time.
+//! The printing program, run as a program: its text.
 
-use std::io::{self, Read, Write};
+use std::io::Write;
 use std::process::{Command, Stdio};
-
-use second::drain::drain;
 
 const F_RECORD: [u8; 30] = [
     0xFD, 0xFF, 0xFF, 0xFF, 0x04, 0x00, 0x00, 0x00, 0x00, 0x01, 0x02, 0x00, 0x03, 0x00, 0x02, 0x00,
@@ -41,18 +39,4 @@ fn refused_input_is_one_line() {
 fn too_long_an_input_is_refused_before_it_is_judged() {
     assert_eq!(printed(&[0; 28_688]), "refused 1 0\n");
     assert_eq!(printed(&[0; 28_689]), "refused 2 0\n");
-}
-
-#[test]
-fn endless_input_ends() {
-    let mut printed = Vec::new();
-    drain(io::repeat(0), &mut printed).unwrap();
-    assert_eq!(printed, b"refused 2 0\n");
-}
-
-#[test]
-fn no_more_is_read_than_is_needed() {
-    let mut input = io::repeat(0).take(100_000);
-    drain(&mut input, io::sink()).unwrap();
-    assert_eq!(100_000 - input.limit(), 28_689);
 }

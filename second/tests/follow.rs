@@ -1,8 +1,6 @@
-//! The program `follow`: its line for each kind of question, and that it stops reading in time.
+//! The program `follow`: its line for each kind of question.
 
-use std::io::{self, Read};
-
-use second::follow::{follow, text, Question, LONGEST};
+use second::follow::{text, Question, LONGEST};
 
 const G: [u16; 6] = [0, 2, 3, 4, 5, 5];
 
@@ -87,18 +85,4 @@ fn a_list_has_at_most_4096_entries() {
     assert_eq!(asked(&[0; 4_097], 4_095, 1), "refused 2 0\n");
     assert_eq!(text(&[0; LONGEST]), "outlet 0 0\n");
     assert_eq!(text(&[0; LONGEST + 1]), "refused 2 0\n");
-}
-
-#[test]
-fn endless_input_ends() {
-    let mut printed = Vec::new();
-    follow(io::repeat(0), &mut printed).unwrap();
-    assert_eq!(printed, b"refused 2 0\n");
-}
-
-#[test]
-fn no_more_is_read_than_is_needed() {
-    let mut input = io::repeat(0).take(100_000);
-    follow(&mut input, io::sink()).unwrap();
-    assert_eq!(100_000 - input.limit(), 8_201);
 }
