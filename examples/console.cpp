@@ -64,7 +64,8 @@ int main(int count, char **words) {
   if (!network.answer().accepted()) {
     const unsigned number = static_cast<unsigned>(network.answer().number());
     std::printf("refused %u: %s", number, network.answer().reason());
-    if (number == ASKVIMUR_BAD_HEIGHT || number == ASKVIMUR_BAD_MARK) std::printf(", first in cell %u", static_cast<unsigned>(network.answer().place()));
+    if (number == ASKVIMUR_BAD_HEIGHT || number == ASKVIMUR_BAD_MARK)
+      std::printf(", first in cell %u", static_cast<unsigned>(network.answer().place()));
     std::printf("\n");
     return 1;
   }

@@ -1,15 +1,11 @@
 -- Document 01's traces T1 to T5 as questions: what `follow` prints for them, and for an input without a list.
 -- Assumes nothing.
-use mathlib.Core.List.{[], List, _∷_}
+use mathlib.Core.List.{[], _∷_}
 use mathlib.Core.Path.{refl, _≡_}
-use Prim.Native.Nat.{ℕ}
 use Rattle.follow.specs.Follow.{followText, questionOf}
+use Rattle.rules.specs.Samples.{receiversG}
 use Rattle.rules.specs.Trace.{trace, traceFrom}
 use Rattle.text.specs.Text.{decimal, decimalWithin, refusedText}
-
--- sample G's receivers
-abbrev receiversG : List ℕ
-receiversG = 0 ∷ 2 ∷ 3 ∷ 4 ∷ 5 ∷ 5 ∷ []
 
 -- "outlet 5 4"
 pub text-T1 : followText (questionOf 1 4 receiversG) ≡ 111 ∷ 117 ∷ 116 ∷ 108 ∷ 101 ∷ 116 ∷ 32 ∷ 53 ∷ 32 ∷ 52 ∷ 10 ∷ []

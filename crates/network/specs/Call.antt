@@ -6,11 +6,12 @@ use Prim.Native.Nat.{min, ℕ}
 use lib.Dec.{leb}
 use lib.IntN.{ℤ}
 use lib.ListN.{length}
-use Rattle.ground.specs.Judge.{judgeLists, leaves}
+use Rattle.ground.specs.Judge.{judgeLists}
 use Rattle.lists.specs.Lent.{overwrite}
 use Rattle.rules.specs.Ground.{Ground}
 use Rattle.rules.specs.Network.{Network, network}
 use Rattle.ground.specs.declared.Judged.{Judged}
+use Rattle.ground.specs.declared.Judged.the-variants.{Accepted, Refused}
 
 -- the six lent lists; levels are signed
 pub record LentLists : Type 0 where
@@ -46,15 +47,8 @@ written net s =
 
 -- after the call: the network where the tile is accepted, and all as it was where it is refused
 abbrev pub left : Judged → Network → LentLists → LentLists
-left judged net s =
-    record {
-      receivers-of = leaves judged (net .receiverList) (s .receivers-of);
-      basins-of = leaves judged (net .basinList) (s .basins-of);
-      order-of = leaves judged (net .orderList) (s .order-of);
-      levels-of = leaves judged (net .levelList) (s .levels-of);
-      drainage-of = leaves judged (net .drainageList) (s .drainage-of);
-      wet-of = leaves judged (net .wetList) (s .wet-of);
-    }
+left (Accepted w h) net s = written net s
+left (Refused why) net s = s
 
 -- the outcome of a call on a ground: the answer, and the six lists before and after it
 pub record Outcome (g : Ground) (before : LentLists) (r : Judged) (after : LentLists) : Type 0 where

@@ -15,10 +15,10 @@ use Rattle.rules.specs.Chain.{join, joined, labels}
 use Rattle.rules.specs.FirstWays.{basin, firstReceiver, lowerNeighbours, neighbours, singular, singularOf, solidCells}
 use Rattle.rules.specs.FirstWays.{steepestOf}
 use Rattle.rules.specs.Ground.{Ground}
-use Rattle.rules.specs.Network.{above, drainage, givers, level, levelWithin, Network, network, networkOf, order, outlets, through, wet}
+use Rattle.rules.specs.Network.{above, drainage, givers, level, levelWithin, network, networkOf, order, outlets, through, wet}
 use Rattle.rules.specs.Passes.{chosen, crossingHeight, crossings, crossingsAt, divides, less, lessThan, linked, node, passes}
 use Rattle.rules.specs.Passes.{sameBasins}
-use Rattle.rules.specs.Samples.{samples-right}
+use Rattle.rules.specs.Samples.{groundA, groundE, networkE, samples-right}
 use Rattle.ground.specs.declared.Judged.{Judged}
 use Rattle.ground.specs.declared.Judged.the-variants.{Accepted, Refused}
 use Rattle.ground.specs.declared.Refusal.the-variants.{NoOutlet}
@@ -27,12 +27,8 @@ use Rattle.ground.specs.declared.Refusal.the-variants.{NoOutlet}
 abbrev zeros : ℕ → LentLists
 zeros n = lentLists (replicate n 0) (replicate n 0) (replicate n 0) (replicate n (pos 0)) (replicate n 0) (replicate n 0)
 
--- sample A: one cell, an outlet
-abbrev tileA : Ground
-tileA = groundOfLists 1 1 (pos 5 ∷ []) (1 ∷ []) (1 ∷ [])
-
--- the impostor that refuses every tile refuses it with 6
-pub refuses-every-tile : (after : LentLists) → Outcome tileA (zeros 1) (Refused NoOutlet) after → ⊥
+-- the impostor that refuses every tile refuses sample A with 6
+pub refuses-every-tile : (after : LentLists) → Outcome groundA (zeros 1) (Refused NoOutlet) after → ⊥
 unfolding judgeLists judge judgeCells judgeMarks judgeOutlet
 refuses-every-tile after h = let e = ap numberOf (h .answer) in omega (arith, e)
 
@@ -59,31 +55,16 @@ sample-d-for-all r after h e =
     ∙ corner-receiver in
     omega (arith, e, f)
 
--- sample E: an outlet on either side of a hill
-abbrev tileE : Ground
-tileE = groundOfLists 3 1 (pos 0 ∷ pos 5 ∷ pos 0 ∷ []) (1 ∷ 0 ∷ 1 ∷ []) (replicate 3 1)
-
-abbrev networkE : Network
-networkE =
-    record {
-      receiverList = 0 ∷ 0 ∷ 2 ∷ [];
-      basinList = 0 ∷ 0 ∷ 1 ∷ [];
-      orderList = 0 ∷ 1 ∷ 2 ∷ [];
-      levelList = pos 0 ∷ pos 5 ∷ pos 0 ∷ [];
-      drainageList = 2 ∷ 1 ∷ 1 ∷ [];
-      wetList = 0 ∷ 0 ∷ 0 ∷ [];
-    }
-
--- all that the contract allows on it
-only-E : (r : Judged) (after : LentLists) → Outcome tileE (zeros 3) r after → after ≡ left (Accepted 3 1) networkE (zeros 3)
+-- all that the contract allows on sample E, which has an outlet on either side of a hill
+only-E : (r : Judged) (after : LentLists) → Outcome groundE (zeros 3) r after → after ≡ left (Accepted 3 1) networkE (zeros 3)
 unfolding judgeLists judge judgeCells judgeMarks judgeOutlet
 only-E r after h =
     h .lists
-    ∙ ap (λ j. left j (network tileE) (zeros 3)) (h .answer)
+    ∙ ap (λ j. left j (network groundE) (zeros 3)) (h .answer)
     ∙ ap (λ net. left (Accepted 3 1) net (zeros 3)) (samples-right .1 .1 .1 .1 .0)
 
 -- the impostor that makes each cell its own receiver gives the hill to itself
-pub own-receiver : (r : Judged) (after : LentLists) → Outcome tileE (zeros 3) r after → at (after .receivers-of) 1 ≡ 1 → ⊥
+pub own-receiver : (r : Judged) (after : LentLists) → Outcome groundE (zeros 3) r after → at (after .receivers-of) 1 ≡ 1 → ⊥
 own-receiver r after h e = let f = ap (λ s. at (s .receivers-of) 1) (only-E r after h) in omega (arith, e, f)
 
 -- the level of the hill, which isn't negative
@@ -95,10 +76,10 @@ abbrev hillLevel : List ℤ → ℕ
 hillLevel levels = size (getD levels 1 (pos 0))
 
 -- the impostor that writes zeros gives the hill the level 0, and no cell any water
-pub zero-levels : (r : Judged) (after : LentLists) → Outcome tileE (zeros 3) r after → after .levels-of ≡ replicate 3 (pos 0) → ⊥
+pub zero-levels : (r : Judged) (after : LentLists) → Outcome groundE (zeros 3) r after → after .levels-of ≡ replicate 3 (pos 0) → ⊥
 zero-levels r after h e =
     let f = ap hillLevel (sym e ∙ ap (λ (s : LentLists). s .levels-of) (only-E r after h)) in
     omega (arith, f)
 
-pub zero-drainage : (r : Judged) (after : LentLists) → Outcome tileE (zeros 3) r after → at (after .drainage-of) 0 ≡ 0 → ⊥
+pub zero-drainage : (r : Judged) (after : LentLists) → Outcome groundE (zeros 3) r after → at (after .drainage-of) 0 ≡ 0 → ⊥
 zero-drainage r after h e = let f = ap (λ s. at (s .drainage-of) 0) (only-E r after h) in omega (arith, e, f)

@@ -37,8 +37,8 @@ said BadCell = refl
 said (BadEntry c) = refl
 
 -- two answers that the contract allows are one
-pub one-answer : (a b : TraceAnswer) → answerOf a ≡ answerOf b → a ≡ b
-one-answer a b e = sym (said a) ∙ ap answerFor e ∙ said b
+pub trace-one : (a b : TraceAnswer) → answerOf a ≡ answerOf b → a ≡ b
+trace-one a b e = sym (said a) ∙ ap answerFor e ∙ said b
 
 -- an outlet that was reached, and the steps of the way to it
 pub record AtOutlet (L : Land) (r : List ℕ) (c : ℕ) (a : TraceAnswer) : Type 0 where
@@ -63,7 +63,7 @@ module _ (L : Land) (r : List ℕ) (D : Drains L r) (small : L .cells ≤ 4096) 
   -- and a larger budget gives the same answer
   pub larger-budget : (budget larger : ℕ) → length (innerCells L) ≤ budget → length (innerCells L) ≤ larger
       → (a b : TraceAnswer) → answerOf a ≡ trace r c budget → answerOf b ≡ trace r c larger → a ≡ b
-  larger-budget budget larger l k a b e f = one-answer a b (e ∙ trace-same L r D small c h s budget larger l k ∙ sym f)
+  larger-budget budget larger l k a b e f = trace-one a b (e ∙ trace-same L r D small c h s budget larger l k ∙ sym f)
 
 -- the network of document 01 is such a list
 pub network-answers-outlet : (L : Land) → Lawful L → L .cells ≤ 4096 → (c : ℕ) → c < L .cells → L .solid c ≡ true

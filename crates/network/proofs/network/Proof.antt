@@ -32,7 +32,9 @@ accepted-at : (c : tie.After-judged2)
     AcceptedLists (λ n. leb n (shortestOf lent)) g (size .0) (size .1 .0)
 accepted-at c =
     let a = c .before .before .before .before .before .before .before .before .before .before .before .before .before .before .before .before .before .args in
-    lists-accepted (λ n. leb n (shortestOf (lentLists (a .receivers .now) (a .basins .now) (a .order .now) (a .levels .now) (a .drained .now) (a .wet .now)))) (groundOfLists (a .width) (a .height) (a .heights .now) (a .marks .now) (a .water .now)) (sym (judged-at (c .before .before)) ∙ c .judged2 .given .1)
+    let lent = lentLists (a .receivers .now) (a .basins .now) (a .order .now) (a .levels .now) (a .drained .now) (a .wet .now) in
+    let g = groundOfLists (a .width) (a .height) (a .heights .now) (a .marks .now) (a .water .now) in
+    lists-accepted (λ n. leb n (shortestOf lent)) g (sym (judged-at (c .before .before)) ∙ c .judged2 .given .1)
 
 shortest-requires : tie.Need-shortest-requires
 shortest-requires c κs = search needs
