@@ -6,8 +6,9 @@
  * WHAT IS PROMISED, AND BY WHOM
  *   Proved    For every ground record and every length of the network record: the answer, and every byte of the network record
  *             afterwards, are those of the rules, ties included. A refusal alters no byte. Bytes past the record stay as they were.
- *             No read or write outside the two records, no overflow, no recursion along cells, and the call always returns.
- *   Tested    That the compiled call does what was proved: it is compared, byte for byte, with a second program in Rust.
+ *             No read or write outside the two records, no overflow, and the call always returns.
+ *   Tested    That the compiled call does what was proved: it is compared, byte for byte, with a second program in Rust. That nothing
+ *             in it calls itself, and how much stack it takes.
  *   Assumed   What the caller owes, below. Nothing can check it from inside the call.
  *
  * THE GROUND RECORD
@@ -23,7 +24,7 @@
  *   - ground points to ground_len readable bytes, network to network_len writable ones;
  *   - the two do not overlap.
  *   Records need no alignment. The call keeps no state: threads may call it at the same time on different network records.
- *   It uses about 256 KB of stack, and no heap.
+ *   It uses no heap, and at most 112 KB of stack: 96.3 KB were measured, the same on every tile (98,616 bytes).
  */
 #ifndef ASKVIMUR_H
 #define ASKVIMUR_H

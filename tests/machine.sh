@@ -4,6 +4,7 @@
 #   native              yes where such a program runs on the processor itself: only then do times say anything
 #   starter NAME        the path of what starts a program of the repository; the program is proved and built first where it isn't up to date
 #   $cc, $cxx           the C and the C++ compiler for x86-64
+#   $objdump, $nm, $ar  what reads their objects and archives
 #   on_x86_64 PROGRAM   runs a program that they built
 #   build_library       proves and builds target/staticlib/libaskvimur.a, where the one that is there is older than the proof
 #   reach_library       the same for programs in Rust: the array `features` is for cargo, and the environment has the rest
@@ -11,11 +12,13 @@ if [ "$(uname -m)" = x86_64 ]; then
   native=yes
   cc=gcc
   cxx=g++
+  objdump=objdump nm=nm ar=ar
   on_x86_64() { "$@"; }
 else
   native=no
   cc=x86_64-linux-gnu-gcc
   cxx=x86_64-linux-gnu-g++
+  objdump=x86_64-linux-gnu-objdump nm=x86_64-linux-gnu-nm ar=x86_64-linux-gnu-ar
   kit=$(dirname "$(dirname "$(rt doc)")")/on/$(uname -m)/toolchain
   # A plain processor: with a newer one the C library fills memory by an instruction that is slow to emulate.
   emulator="$kit/bin/qemu-x86_64 -cpu qemu64"

@@ -1,4 +1,7 @@
-//! The benchmark's parts: the plain version and the tiles. The program times them.
+//! The benchmark's parts: the plain version, the tiles of both tables, and the clock. The programs put them together.
 
+pub mod adversarial;
 pub mod plain;
+pub mod race;
+pub mod slow_reliefs;
 pub mod tiles;

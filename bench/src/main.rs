@@ -1,141 +1,130 @@
-//! The benchmark: our call and the plain version in turn on each tile, in one process.
+//! The benchmark: our call beside the plain version, on the mix of tiles and on the adversarial ones.
 
 use std::env;
 use std::process::ExitCode;
-use std::time::{Duration, Instant};
 
-use bench::plain::Plain;
-use bench::tiles::{tile, FAMILIES};
-use compare::library::{self, under_test, Library};
+use bench::race::{Best, Race, Times};
+use bench::tiles::{tile, Tile};
+use bench::{adversarial, tiles};
+use compare::library;
 
-/// How many tiles a run takes when nothing else is asked for.
+/// How many tiles of the mix a run takes when nothing else is asked for.
 const DEFAULT_TILES: u64 = 10_000;
 
-/// Tiles that are run before the clock counts.
-const WARM_UP: u64 = 100;
+/// How often each tile of the mix is run: its time is the least of these.
+const ROUNDS: usize = 7;
+
+/// So many times as often the adversarial tiles are run: one tile with bad luck in all of its runs would decide which is the slowest.
+const OFTENER: usize = 3;
 
 const SEED: u64 = 1;
 
-/// The length of the network record of a 64 by 64 tile.
-const ROOM: usize = 61_468;
-
-/// The time of both sides on one family.
-#[derive(Clone, Copy, Default)]
-struct Times {
-    tiles: u64,
-    ours: Duration,
-    plain: Duration,
-}
-
-/// Both sides, each with a room of its own.
-struct Race {
-    ours: Library,
-    plain: Plain,
-    our_room: Vec<u8>,
-    plain_room: Vec<u8>,
-}
-
 fn main() -> ExitCode {
-    let tiles = match env::args().nth(1).map(|word| word.parse()) {
+    let count = match env::args().nth(1).map(|word| word.parse()) {
         None => DEFAULT_TILES,
-        Some(Ok(tiles)) => tiles,
-        Some(Err(_)) => {
+        Some(Ok(count)) if count > 0 => count,
+        Some(_) => {
             eprintln!("usage: bench [TILES]");
             return ExitCode::from(2);
         }
     };
     println!("ours is {}", library::description());
-    println!("{tiles} tiles of 64 by 64, seed {SEED}");
-    print_table(&run(tiles));
+    println!(
+        "{count} tiles of 64 by 64, seed {SEED}; each time is the least of {ROUNDS} runs or more"
+    );
+    let mix: Vec<Tile> = (0..count).map(|number| tile(SEED, number)).collect();
+    let slow = adversarial::tiles();
+    let (mix_best, slow_best) = measure(&mix, &slow);
+    let all = print_mix(&mix, &mix_best);
+    print_adversarial(&slow, &slow_best, all.means().0);
+    println!("ratio {:.3}", all.ratio());
     ExitCode::SUCCESS
 }
 
-/// Times both sides on every tile. Who goes first changes from pair to pair.
-fn run(tiles: u64) -> [Times; FAMILIES.len()] {
-    let mut race = Race {
-        ours: under_test(),
-        plain: Plain::default(),
-        our_room: vec![0; ROOM],
-        plain_room: vec![0; ROOM],
-    };
-    for index in 0..WARM_UP {
-        let warm_up = tile(SEED, tiles + index);
-        race.time_ours(&warm_up.record);
-        race.time_plain(&warm_up.record);
-    }
-    let mut times = [Times::default(); FAMILIES.len()];
-    for index in 0..tiles {
-        let tile = tile(SEED, index);
-        let (ours, plain) = race.time_both(&tile.record, index / 2 % 2 == 0);
-        assert!(race.our_room == race.plain_room, "tile {index} differs");
-        let family = &mut times[tile.family];
-        family.tiles += 1;
-        family.ours += ours;
-        family.plain += plain;
-    }
-    times
-}
-
-impl Race {
-    fn time_both(&mut self, record: &[u8], ours_first: bool) -> (Duration, Duration) {
-        if ours_first {
-            let ours = self.time_ours(record);
-            (ours, self.time_plain(record))
-        } else {
-            let plain = self.time_plain(record);
-            (self.time_ours(record), plain)
+/// The least times of every tile. All others are run between two runs of the same one, so that its runs are far apart.
+fn measure(mix: &[Tile], slow: &[Tile]) -> (Vec<Best>, Vec<Best>) {
+    let mut race = Race::default();
+    // What is slow only once counts nowhere.
+    race.round(slow, &mut vec![Best::NONE; slow.len()]);
+    let mut mix_best = vec![Best::NONE; mix.len()];
+    let mut slow_best = vec![Best::NONE; slow.len()];
+    let part = mix.len().div_ceil(OFTENER);
+    for _ in 0..ROUNDS {
+        for (tiles, best) in mix.chunks(part).zip(mix_best.chunks_mut(part)) {
+            race.round(tiles, best);
+            race.round(slow, &mut slow_best);
         }
     }
-
-    fn time_ours(&mut self, record: &[u8]) -> Duration {
-        self.our_room.fill(0);
-        let start = Instant::now();
-        let answer = (self.ours)(record, &mut self.our_room);
-        let time = start.elapsed();
-        assert_eq!(answer as usize, ROOM);
-        time
-    }
-
-    fn time_plain(&mut self, record: &[u8]) -> Duration {
-        self.plain_room.fill(0);
-        let start = Instant::now();
-        let answer = self.plain.call(record, &mut self.plain_room);
-        let time = start.elapsed();
-        assert_eq!(answer as usize, ROOM);
-        time
-    }
+    (mix_best, slow_best)
 }
 
-/// A line for each family, one for all, and the ratio alone on the last line.
-fn print_table(times: &[Times; FAMILIES.len()]) {
-    let header = ["tiles", "ours us", "plain us", "ratio"];
+/// A line for each family of the mix and one for all, and the family with the greatest ratio. The answer is the sum of all.
+fn print_mix(mix: &[Tile], best: &[Best]) -> Times {
     println!(
-        "{:<16}{:>8}{:>12}{:>12}{:>8}",
-        "family", header[0], header[1], header[2], header[3]
+        "{:<18}{:>8}{:>12}{:>12}{:>8}",
+        "family", "tiles", "ours us", "plain us", "ratio"
     );
     let mut all = Times::default();
-    for ((name, _), family) in FAMILIES.iter().zip(times) {
-        print_row(name, family);
-        all.tiles += family.tiles;
-        all.ours += family.ours;
-        all.plain += family.plain;
+    let mut greatest = (0.0, "");
+    for (number, (name, _)) in tiles::FAMILIES.iter().enumerate() {
+        let times: Times = of_family(number, mix, best).collect();
+        println!("{}", row(name, &times));
+        all.add(&times);
+        if times.ratio() > greatest.0 {
+            greatest = (times.ratio(), name);
+        }
     }
-    print_row("all", &all);
-    println!("ratio {:.2}", ratio(&all));
+    println!("{}", row("all", &all));
+    println!(
+        "greatest ratio of a family: {:.3} ({})",
+        greatest.0, greatest.1
+    );
+    all
 }
 
-fn print_row(name: &str, times: &Times) {
-    let per_tile = |time: Duration| time.as_secs_f64() * 1e6 / times.tiles.max(1) as f64;
+/// The same for the adversarial families, with the slowest tile of each, and the slowest of all in the mean time of the mix.
+fn print_adversarial(slow: &[Tile], best: &[Best], mean: f64) {
+    println!("\nadversarial tiles; the last column is the slowest tile of the family in mean times of the mix, {mean:.1} us");
     println!(
-        "{name:<16}{:>8}{:>12.1}{:>12.1}{:>8.2}",
-        times.tiles,
-        per_tile(times.ours),
-        per_tile(times.plain),
-        ratio(times)
+        "{:<18}{:>8}{:>12}{:>12}{:>8}{:>9}",
+        "family", "tiles", "ours us", "plain us", "ratio", "slowest"
+    );
+    let mut slowest = (0.0, String::new());
+    for (number, family) in adversarial::FAMILIES.iter().enumerate() {
+        let times: Times = of_family(number, slow, best).collect();
+        let in_means = |best: Best| best.ours.as_secs_f64() * 1e6 / mean;
+        let longest = of_family(number, slow, best)
+            .map(in_means)
+            .enumerate()
+            .max_by(|(_, one), (_, other)| one.total_cmp(other));
+        let (tile, longest) = longest.expect("each family has a tile");
+        println!("{}{longest:>9.2}", row(family.name, &times));
+        if longest > slowest.0 {
+            slowest = (longest, format!("{} {tile}", family.name));
+        }
+    }
+    println!(
+        "slowest adversarial tile: {:.2} times the mean ({})",
+        slowest.0, slowest.1
     );
 }
 
-/// Ours divided by plain.
-fn ratio(times: &Times) -> f64 {
-    times.ours.as_secs_f64() / times.plain.as_secs_f64()
+fn of_family<'a>(
+    number: usize,
+    tiles: &'a [Tile],
+    best: &'a [Best],
+) -> impl Iterator<Item = Best> + 'a {
+    let pairs = tiles.iter().zip(best);
+    pairs
+        .filter(move |(tile, _)| tile.family == number)
+        .map(|(_, &best)| best)
+}
+
+fn row(name: &str, times: &Times) -> String {
+    let (ours, plain) = times.means();
+    format!(
+        "{name:<18}{:>8}{ours:>12.1}{plain:>12.1}{:>8.2}",
+        times.tiles,
+        times.ratio()
+    )
 }

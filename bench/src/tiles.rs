@@ -1,9 +1,15 @@
-//! The benchmark's tiles: 64 by 64, every second one largely level.
+//! The benchmark's mix of tiles: 64 by 64, every second one largely level.
 
 use compare::chance::Chance;
 use compare::{families, outlets, reliefs};
 use second::ground::Size;
 use second::record;
+
+/// The size of every tile.
+pub const SIZE: Size = Size {
+    width: 64,
+    height: 64,
+};
 
 /// The families, largely level first.
 pub const FAMILIES: [(&str, reliefs::Relief); 6] = [
@@ -27,12 +33,8 @@ pub fn tile(seed: u64, index: u64) -> Tile {
         0 => 0,
         _ => 1 + (index / 2) as usize % (FAMILIES.len() - 1),
     };
-    let size = Size {
-        width: 64,
-        height: 64,
-    };
     let mut chance = Chance::of_case(seed, index);
-    let ground = families::ground(&mut chance, size, FAMILIES[family].1, outlets::any);
+    let ground = families::ground(&mut chance, SIZE, FAMILIES[family].1, outlets::any);
     Tile {
         family,
         record: record::bytes(&ground),

@@ -1,38 +1,52 @@
 // The record call: from a ground record to its network record, for consoles and other programs (include/askvimur.h).
 ghost use mathlib.Core.Path.{_≡_};
 ghost use Prim.Native.Nat.{_*_, _+_, _≤_};
-ghost use lib.ListN.{length};
+ghost use lib.ListN.{length, take};
 ghost use Rattle.askvimur.specs.Answer.{answerTo, networkRecordOf, roomOf};
 ghost use Rattle.ground.specs.Good.{Good};
 ghost use Rattle.ground.specs.Judge.{judgeRecord, leaves, numberOf, placeOf};
 ghost use Rattle.ground.specs.Record.{groundIn, groundOfRecord};
 ghost use Rattle.lists.specs.Lent.{overwrite};
+ghost use Rattle.lists.specs.Lists.{tab};
+ghost use Rattle.record_network.specs.LinkedRecord.{LinkedRecord};
+ghost use Rattle.rules.specs.FirstWays.{basin};
+ghost use Rattle.rules.specs.Land.{land4};
 use ground::Judged;
 use ground::Room;
 use network_record::write_network;
-use record_network::record_network;
+use record_network::link_record;
+use record_network::walk_record;
 
-// The network record of an accepted ground record. Its own work space is 68 KB, and that of the stages comes to it.
-fn write_record(bytes: &[u8], width: u16, height: u16, network: &mut [u8])
+// The network record of a ground record whose cells are linked. Work space: 52 KB, taken only once the cells are linked.
+fn write_linked(
+    bytes: &[u8],
+    width: u16,
+    height: u16,
+    raised: &[u32],
+    basins: &[u16],
+    links: &[u8],
+    network: &mut [u8],
+)
     requires { ⌜ Good (groundIn (now bytes) width height) × (length (now bytes) ≡ 7 * (height * width) + 16) ⌝ }
-    requires { ⌜ 15 * (height * width) + 28 ≤ length (now network) ⌝ }
+    requires { ⌜ LinkedRecord (now bytes) width height (now raised) (now links) × (15 * (height * width) + 28 ≤ length (now network)) ⌝ }
+    requires { ⌜
+        take (height * width) (now basins) ≡ tab (height * width) (basin (land4 (groundIn (now bytes) width height)))
+        ⌝ }
     ensures { λ _. ⌜ now (network .exit) ≡ overwrite (networkRecordOf (groundIn (now (bytes .entry)) width height)) (now (network .entry)) ⌝ }
 {
     let n = ground::cells(width, height);
-    let mut water = [0u16; 4096];
     let mut receivers = [0u16; 4096];
-    let mut basins = [0u16; 4096];
     let mut order = [0u16; 4096];
     let mut levels = [0u32; 4096];
     let mut drained = [0u32; 4096];
     let mut wet = [0u8; 4096];
-    record_network(
+    walk_record(
         bytes,
         width,
         height,
-        &mut water,
+        raised,
+        links,
         &mut receivers,
-        &mut basins,
         &mut order,
         &mut levels,
         &mut drained,
@@ -49,6 +63,19 @@ fn write_record(bytes: &[u8], width: u16, height: u16, network: &mut [u8])
         &wet[..n],
         network,
     );
+}
+
+// The network record of an accepted ground record. Work space: 28 KB, and that of linking or of writing.
+fn write_record(bytes: &[u8], width: u16, height: u16, network: &mut [u8])
+    requires { ⌜ Good (groundIn (now bytes) width height) × (length (now bytes) ≡ 7 * (height * width) + 16) ⌝ }
+    requires { ⌜ 15 * (height * width) + 28 ≤ length (now network) ⌝ }
+    ensures { λ _. ⌜ now (network .exit) ≡ overwrite (networkRecordOf (groundIn (now (bytes .entry)) width height)) (now (network .entry)) ⌝ }
+{
+    let mut raised = [0u32; 4096];
+    let mut basins = [0u16; 4096];
+    let mut links = [0u8; 4224];
+    link_record(bytes, width, height, &mut raised, &mut basins, &mut links);
+    write_linked(bytes, width, height, &raised, &basins, &links, network);
 }
 
 // The answer to a refused record: the number times 65,536, plus the place.

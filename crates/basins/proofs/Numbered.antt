@@ -1,4 +1,4 @@
--- Basin numbers: the singular cells below a cell are counted, and each cell takes the count at its singular cell.
+-- Basin numbers and labels: the singular cells below a cell are counted, and each cell takes the count at its singular cell.
 -- Assumes nothing.
 use mathlib.Core.Bool.{Bool, cond, false, true, _&&_}
 use mathlib.Core.List.{[], List, _∷_}
@@ -9,12 +9,14 @@ use native.Mathlib.Omega.{arith}
 use lib.Dec.{eqb}
 use lib.ListN.{length, length-append}
 use Rattle.basins.specs.Jumps.{FirstReceivers, oneIf, singularBelow, Within}
+use Rattle.basins.specs.Labels.{labelBy, Marked}
 use Rattle.lists.proofs.Entries.{filled-again, filled-at, filled-same}
 use Rattle.lists.proofs.Ranges.{keep-append, keep-same, mem-upto, range-split}
 use Rattle.lists.specs.Lists.{at, filled, keep, range, upto, _∈_}
 use Rattle.rules.proofs.FirstReceivers.{singularOf-below}
 use Rattle.rules.specs.FirstWays.{basin, firstReceiver, singular, singularOf}
 use Rattle.rules.specs.Land.{Land}
+use Rattle.rules.specs.NodeLabels.{labelOf}
 
 pub one-or-none : (b : Bool) → oneIf b ≤ 1
 one-or-none true = omega arith
@@ -56,15 +58,34 @@ module _ (L : Land) (n : ℕ) (entries : List ℕ) (F : FirstReceivers L n entri
   singular-within q e c h =
       subst (λ (k : ℕ). k < n) (sym (ap (λ (l : List ℕ). at l c) e ∙ filled-at (singularOf L) n entries c h)) (singular-in c h)
 
+  cell-found : (q : List ℕ) → q ≡ filled (singularOf L) n entries → (c : ℕ) → c < n → at q c ≡ singularOf L c
+  cell-found q b c h = ap (λ (l : List ℕ). at l c) b ∙ filled-at (singularOf L) n entries c h
+
+  number-found : (numbers q old : List ℕ) → numbers ≡ filled (singularBelow entries) n old → q ≡ filled (singularOf L) n entries
+      → (c : ℕ) → c < n → at numbers (at q c) ≡ basin L c
+  number-found numbers q old a b c h =
+      ap (at numbers) (cell-found q b c h)
+      ∙ ap (λ (l : List ℕ). at l (singularOf L c)) a ∙ filled-at (singularBelow entries) n old (singularOf L c) (singular-in c h)
+      ∙ below-basin c h
+
   -- counted, led to the singular cells, looked up
   pub numbered : (numbers q out old : List ℕ) → numbers ≡ filled (singularBelow entries) n old → q ≡ filled (singularOf L) n entries
       → out ≡ filled (λ c. at numbers (at q c)) n q → out ≡ filled (basin L) n entries
   numbered numbers q out old a b e =
-      e ∙ filled-same (λ c. at numbers (at q c)) (basin L) n q found
+      e ∙ filled-same (λ c. at numbers (at q c)) (basin L) n q (number-found numbers q old a b)
       ∙ ap (filled (basin L) n) b ∙ filled-again (basin L) (singularOf L) n entries
+
+  -- and labelled
+  pub labelled : (marks numbers q out old labels : List ℕ) → Marked L n marks → numbers ≡ filled (singularBelow entries) n old
+      → q ≡ filled (singularOf L) n entries → out ≡ filled (λ c. labelBy n (at marks (at q c)) (at numbers (at q c))) n labels
+      → out ≡ filled (labelOf L) n labels
+  unfolding labelOf
+  labelled marks numbers q out old labels M a b e =
+      e ∙ filled-same (λ c. labelBy n (at marks (at q c)) (at numbers (at q c))) (labelOf L) n labels found
     where
-      found : (c : ℕ) → c < n → at numbers (at q c) ≡ basin L c
+      found : (c : ℕ) → c < n → labelBy n (at marks (at q c)) (at numbers (at q c)) ≡ labelOf L c
       found c h =
-          ap (at numbers) (ap (λ (l : List ℕ). at l c) b ∙ filled-at (singularOf L) n entries c h)
-          ∙ ap (λ (l : List ℕ). at l (singularOf L c)) a ∙ filled-at (singularBelow entries) n old (singularOf L c) (singular-in c h)
-          ∙ below-basin c h
+          ap (λ (d : ℕ). labelBy n (at marks d) (at numbers (at q c))) (cell-found q b c h)
+          ∙ ap (λ (t : Bool). cond t n (at numbers (at q c))) (sym (M (singularOf L c) (singular-in c h)))
+          ∙ ap (λ (k : ℕ). cond (L .outlet (singularOf L c)) n k) (number-found numbers q old a b c h)
+          ∙ ap (λ (k : ℕ). cond (L .outlet (singularOf L c)) k (basin L c)) (sym (F .cells))

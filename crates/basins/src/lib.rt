@@ -1,13 +1,15 @@
-// Rule 2, basins: the singular cell that each cell's first receivers lead to, and the number of each cell's basin.
+// Rule 2, basins: the singular cell that each cell's first receivers lead to, the number of each cell's basin, and its label.
 // Entries jump: each cell's entry is replaced by its entry's entry, until all entries lead far enough or none moves.
 ghost use mathlib.Core.Path.{_≡_};
 ghost use Prim.Native.Nat.{_+_, _<_, _≤_};
 ghost use lib.Dec.{eqb};
 ghost use lib.ListN.{length};
 ghost use Rattle.basins.specs.Jumps.{anyMoved, FirstReceivers, jumped, movedOn, oneIf, singularBelow, Within};
+ghost use Rattle.basins.specs.Labels.{labelBy, Marked};
 ghost use Rattle.lists.specs.Lists.{at, filled};
 ghost use Rattle.rules.specs.FirstWays.{basin, singularOf};
 ghost use Rattle.rules.specs.Land.{Land};
+ghost use Rattle.rules.specs.NodeLabels.{labelOf};
 use kinds::Basin;
 use kinds::Cell;
 
@@ -78,31 +80,51 @@ fn number_basins(receivers: &[u16], n: usize, numbers: &mut [u16])
     }
 }
 
-// Each entry, a cell, is replaced by the number that this cell has in a list.
-fn look_up(numbers: &[u16], n: usize, entries: &mut [u16])
+// The label of a cell, by the mark and the basin's number of its singular cell: all outlet basins have one, the count of cells.
+fn label_of(all: u16, mark: u8, number: Basin) -> u16
+    ensures { λ r. ⌜ r ≡ labelBy all mark (number .0) ⌝ }
+{
+    if mark == 1 { all } else { number.0 }
+}
+
+// Each entry, a cell, is replaced by the number that this cell has in a list; and each cell gets its label.
+fn look_up(numbers: &[u16], marks: &[u8], n: usize, entries: &mut [u16], labels: &mut [u16])
     requires { ⌜ (n ≤ length (now numbers)) × (n ≤ length (now entries)) × Within n (now entries) ⌝ }
+    requires { ⌜ (n ≤ length (now marks)) × (n ≤ length (now labels)) × (n ≤ 4096) ⌝ }
     ensures { λ _. ⌜
         now (entries .exit) ≡ filled (λ c. at (now (numbers .entry)) (at (now (entries .entry)) c)) n (now (entries .entry))
         ⌝ }
+    ensures { λ _. ⌜
+        now (labels .exit)
+        ≡ filled (λ c. labelBy n (at (now (marks .entry)) (at (now (entries .entry)) c)) (at (now (numbers .entry)) (at (now (entries .entry)) c)))
+        n (now (labels .entry))
+        ⌝ }
 {
+    let all = n as u16;
     let mut c = 0;
     while c < n {
         let d = entries[c] as usize;
-        entries[c] = numbers[d];
+        let number = numbers[d];
+        entries[c] = number;
+        labels[c] = label_of(all, marks[d], Basin(number));
         c += 1;
     }
 }
 
-// From first receivers to basin numbers, in place. The work list is left with the count of singular cells below each cell.
-pub fn basin_numbers(n: usize, work: &mut [u16], entries: &mut [u16])
+// From first receivers to basin numbers, in place, and labels that tell the nodes of rule 4 apart. Work space: 8 KB.
+pub fn basin_numbers(n: usize, marks: &[u8], entries: &mut [u16], labels: &mut [u16])
     requires { ⌜ ((L : Land) × FirstReceivers L n (now entries)) ⌝ }
-    requires { ⌜ n ≤ length (now work) ⌝ }
+    requires { ⌜ (n ≤ length (now marks)) × (n ≤ length (now labels)) ⌝ }
     ensures { λ _. ⌜
         ((L : Land) → FirstReceivers L n (now (entries .entry)) → now (entries .exit) ≡ filled (basin L) n (now (entries .entry)))
         ⌝ }
-    ensures { λ _. ⌜ now (work .exit) ≡ filled (singularBelow (now (entries .entry))) n (now (work .entry)) ⌝ }
+    ensures { λ _. ⌜
+        ((L : Land) → FirstReceivers L n (now (entries .entry)) → Marked L n (now (marks .entry))
+        → now (labels .exit) ≡ filled (labelOf L) n (now (labels .entry)))
+        ⌝ }
 {
-    number_basins(entries, n, work);
+    let mut numbers = [0u16; 4096];
+    number_basins(entries, n, &mut numbers);
     singular_cells(entries, n);
-    look_up(work, n, entries);
+    look_up(&numbers, marks, n, entries, labels);
 }

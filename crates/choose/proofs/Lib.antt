@@ -1,4 +1,2 @@
-pub mod Marked
-pub mod Picks
 pub mod Stages
 pub mod Chosen

@@ -1,4 +1,3 @@
 pub mod OwnReceivers
 pub mod Backwards
-pub mod Wetness
 pub mod Stages

@@ -1,4 +1,4 @@
--- What the walk leaves of a tile is what drainage and the wet list ask for.
+-- What the walk leaves of a tile is what drainage asks for.
 -- Assumes nothing.
 use mathlib.Core.List.{List, _++_}
 use mathlib.Core.Path.{ap, refl, _∙_, _≡_}
@@ -6,13 +6,11 @@ use Prim.Native.Nat.{ℕ, _+_, _<_, _≤_}
 use native.Mathlib.Omega.{arith}
 use lib.ListN.{length, length-append, List·getD-append, take}
 use lib.Seq.{take-at}
-use Rattle.drainage.specs.Giving.{Levelled, Ordered}
-use Rattle.lists.proofs.Entries.{filled-at}
-use Rattle.lists.proofs.Fill.{filled-length}
-use Rattle.lists.specs.Lists.{at, filled}
+use Rattle.drainage.specs.Giving.{Ordered}
+use Rattle.lists.specs.Lists.{at}
 use Rattle.rules.proofs.WholeOrders.{order-whole}
 use Rattle.rules.specs.Land.{Land}
-use Rattle.rules.specs.Network.{level, order}
+use Rattle.rules.specs.Network.{order}
 use Rattle.rules.specs.Way.{Drains}
 use Rattle.tiles.specs.Tile.{Tile, tileLand}
 
@@ -47,17 +45,4 @@ module _ (w : ℕ) (heights marks r : List ℕ) (T : Tile w heights marks) (D : 
         fits-receivers = receivers-fit;
         order-is = ap (take n) f ∙ take-at (order L r) rest n full;
         receivers-are = receivers-at;
-      }
-
-  pub tile-levelled : (levels old : List ℕ) → n ≤ length old → levels ≡ filled (level L r) n old → Levelled L r n receivers levels
-  tile-levelled levels old room f =
-      record {
-        cells = refl;
-        few = T .few;
-        whole = λ c h. refl;
-        drains = D;
-        fits-receivers = receivers-fit;
-        fits-levels = let a : length levels ≡ length old = ap length f ∙ filled-length (level L r) n old room in omega arith;
-        receivers-are = receivers-at;
-        levels-are = λ c h. ap (λ (z : List ℕ). at z c) f ∙ filled-at (level L r) n old c h;
       }

@@ -1,6 +1,6 @@
--- What rules 9 and 10 are worked out from: the order, the receivers and the levels of a land without holes.
+-- What rule 9 is worked out from: the order and the receivers of a land without holes.
 -- Assumes nothing.
-use mathlib.Core.Bool.{cond, not, true, _&&_}
+use mathlib.Core.Bool.{cond, true}
 use mathlib.Core.List.{List}
 use mathlib.Core.Path.{_≡_}
 use Prim.Native.Nat.{ℕ, _+_, _<_, _≤_}
@@ -8,7 +8,7 @@ use lib.Dec.{eqb}
 use lib.ListN.{length, set, take}
 use Rattle.lists.specs.Lists.{at}
 use Rattle.rules.specs.Land.{Land}
-use Rattle.rules.specs.Network.{level, order}
+use Rattle.rules.specs.Network.{order}
 use Rattle.rules.specs.Way.{Drains}
 
 -- the first n entries are the order and the receivers r of a land of n cells that drains
@@ -22,21 +22,6 @@ pub record Ordered (L : Land) (r : List ℕ) (n : ℕ) (ordered receivers : List
   pub order-is : take n ordered ≡ order L r
   pub receivers-are : (c : ℕ) → c < n → at receivers c ≡ at r c
 
--- the first n entries are the receivers r and the levels of a land of n cells that drains
-pub record Levelled (L : Land) (r : List ℕ) (n : ℕ) (receivers levels : List ℕ) : Type 0 where
-  pub cells : L .cells ≡ n
-  pub few : n ≤ 4096
-  pub whole : (c : ℕ) → c < n → L .solid c ≡ true
-  pub drains : Drains L r
-  pub fits-receivers : n ≤ length receivers
-  pub fits-levels : n ≤ length levels
-  pub receivers-are : (c : ℕ) → c < n → at receivers c ≡ at r c
-  pub levels-are : (c : ℕ) → c < n → at levels c ≡ level L r c
-
 -- c has given all it has to its receiver; an outlet, its own receiver, keeps it
 abbrev pub given : List ℕ → ℕ → ℕ → List ℕ
 given d c receiver = cond (eqb receiver c) d (set d receiver (at d receiver + at d c))
-
--- rule 10 from a cell, its receiver and their levels: an outlet is its own receiver
-abbrev pub wetBy : ℕ → ℕ → ℕ → ℕ → ℕ
-wetBy c receiver a b = cond (not (eqb receiver c) && eqb a b) 1 0

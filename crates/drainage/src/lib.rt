@@ -1,13 +1,14 @@
-// Rules 9 and 10. Drainage: every cell starts with its own water, and going backwards through the order each gives all it has to
-// its receiver, so that a cell has all its water before it gives. Wet: a cell whose level is its receiver's.
+// Rule 9, drainage: every cell starts with its own water, and going backwards through the order each gives all it has to its
+// receiver, so that a cell has all its water before it gives. The water is a list, or a section of a record, read where it stands.
 ghost use mathlib.Core.List.{List};
 ghost use mathlib.Core.Path.{_≡_};
-ghost use Prim.Native.Nat.{ℕ, _+_, _<_, _≤_};
+ghost use Prim.Native.Nat.{ℕ, _*_, _+_, _<_, _≤_};
 ghost use lib.ListN.{length};
-ghost use Rattle.drainage.specs.Giving.{given, Levelled, Ordered, wetBy};
+ghost use Rattle.drainage.specs.Giving.{given, Ordered};
 ghost use Rattle.lists.specs.Lists.{at, filled};
+ghost use Rattle.little.specs.Little.{numbersAt};
 ghost use Rattle.rules.specs.Land.{Land};
-ghost use Rattle.rules.specs.Network.{drainage, wet};
+ghost use Rattle.rules.specs.Network.{drainage};
 use kinds::Cell;
 
 // A cell's own water as a number that drainage is counted in.
@@ -17,7 +18,7 @@ fn widened(water: u16) -> u32
     water as u32
 }
 
-// Each cell's own water.
+// Each cell's own water, from a list.
 fn own_water(water: &[u16], drained: &mut [u32])
     requires { ⌜ length (now water) ≤ length (now drained) ⌝ }
     ensures { λ _. ⌜ now (drained .exit) ≡ filled (at (now (water .entry))) (length (now (water .entry))) (now (drained .entry)) ⌝ }
@@ -25,6 +26,18 @@ fn own_water(water: &[u16], drained: &mut [u32])
     let mut c = 0;
     while c < water.len() {
         drained[c] = widened(water[c]);
+        c += 1;
+    }
+}
+
+// Each cell's own water, from the section of a record that starts at index `from`.
+fn section_water(bytes: &[u8], from: usize, n: usize, drained: &mut [u32])
+    requires { ⌜ (from + 2 * n ≤ length (now bytes)) × (n ≤ length (now drained)) ⌝ }
+    ensures { λ _. ⌜ now (drained .exit) ≡ filled (at (numbersAt 2 (now (bytes .entry)) from n)) n (now (drained .entry)) ⌝ }
+{
+    let mut c = 0;
+    while c < n {
+        drained[c] = widened(little::read_u16(bytes, from + 2 * c));
         c += 1;
     }
 }
@@ -73,34 +86,22 @@ pub fn drain(water: &[u16], order: &[u16], receivers: &[u16], drained: &mut [u32
     give_all(order, receivers, drained, water.len());
 }
 
-// 1 where a cell is wet: not an outlet, that is not its own receiver, and at its receiver's level.
-fn wet_mark(c: Cell, receiver: Cell, level: u32, receiver_level: u32) -> u8
-    ensures { λ r. ⌜ r ≡ wetBy (c .0) (receiver .0) level «receiver_level» ⌝ }
-{
-    if receiver.0 == c.0 {
-        return 0;
-    }
-    if level == receiver_level { 1 } else { 0 }
-}
-
-// The wet list of all cells.
-pub fn wet_cells(receivers: &[u16], levels: &[u32], out: &mut [u8], n: usize)
-    requires { ⌜ ((L : Land) × (r : List ℕ) × Levelled L r n (now receivers) (now levels)) ⌝ }
-    requires { ⌜ n ≤ length (now out) ⌝ }
+// The same for n cells whose water is the section of a record that starts at index `from`, two bytes a cell.
+pub fn drain_section(
+    bytes: &[u8],
+    from: usize,
+    n: usize,
+    order: &[u16],
+    receivers: &[u16],
+    drained: &mut [u32],
+)
+    requires { ⌜ ((L : Land) × (r : List ℕ) × Ordered L r n (now order) (now receivers)) ⌝ }
+    requires { ⌜ (from + 2 * n ≤ length (now bytes)) × (n ≤ length (now drained)) ⌝ }
     ensures { λ _. ⌜
-        ((L : Land) → (r : List ℕ) → Levelled L r n (now (receivers .entry)) (now (levels .entry))
-        → now (out .exit) ≡ filled (wet L r) n (now (out .entry)))
+        ((L : Land) → (r : List ℕ) → Ordered L r n (now (order .entry)) (now (receivers .entry))
+        → now (drained .exit) ≡ filled (drainage L (numbersAt 2 (now (bytes .entry)) from n) r) n (now (drained .entry)))
         ⌝ }
 {
-    let mut c = 0;
-    while c < n {
-        let receiver = receivers[c];
-        out[c] = wet_mark(
-            Cell(c as u16),
-            Cell(receiver),
-            levels[c],
-            levels[receiver as usize],
-        );
-        c += 1;
-    }
+    section_water(bytes, from, n, drained);
+    give_all(order, receivers, drained, n);
 }

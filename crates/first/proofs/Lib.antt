@@ -1,2 +1,3 @@
-pub mod Neighbours
 pub mod Tried
+pub mod Keys
+pub mod Rows

@@ -1,121 +1,150 @@
-// Rule 1, first receivers: a cell's lowest neighbour that is strictly lower than itself; of equally low ones, the least cell number.
-// The four neighbours are tried by ascending number, each against the best so far, and the first best is the cell itself:
-// what is left where none is lower is the cell, and it is a pit.
+// Rule 1 by least keys: for each cell the side of its first receiver as a weight, 1 above, 2 to the left, 4 to the right, 8 below,
+// and 0 for outlets and pits; first receivers from weights. No step branches on heights, so that the compiler can take many cells at
+// once.
+ghost use mathlib.Core.Bool.{cond};
 ghost use mathlib.Core.List.{List};
 ghost use mathlib.Core.Path.{_≡_};
-ghost use Prim.Native.Nat.{ℕ, _%_, _+_, _<_, _≤_};
+ghost use Prim.Native.Nat.{ℕ, _+_, _<_, _≤_};
+ghost use lib.Dec.{eqb};
 ghost use lib.ListN.{length};
-ghost use Rattle.lists.specs.Lists.{filled};
+ghost use Rattle.first.specs.Sides as S;
+ghost use Rattle.lists.specs.Lists.{at, filled};
 ghost use Rattle.rules.specs.FirstWays.{firstReceiver};
+ghost use Rattle.tiles.specs.Masks.{maskOf};
 ghost use Rattle.tiles.specs.Tile.{Tile, tileLand};
-ghost use Rattle.first.specs.Tries as S;
-use kinds::Cell;
-use tiles::is_outlet;
-use tiles::next_column;
+use lists::least_u32;
 
-// Cell d where it is strictly lower than the best so far, otherwise that one: of equally low cells the one tried first stays.
-fn lower_of(heights: &[u32], best: Cell, d: Cell) -> Cell
-    requires { ⌜ (best .0 < length (now heights)) × (d .0 < length (now heights)) ⌝ }
-    ensures { λ r. ⌜ (r .0 ≡ S.lowerOf (now (heights .entry)) (best .0) (d .0)) × (r .0 < length (now (heights .entry))) ⌝ }
+// The key of cell d at the side of this weight.
+fn key(heights: &[u32], d: usize, weight: u32) -> u32
+    requires { ⌜ (d < length (now heights)) × (weight ≤ 8) × (at (now heights) d ≤ 16000000) ⌝ }
+    ensures { λ r. ⌜ r ≡ S.key (now (heights .entry)) d weight ⌝ }
 {
-    if heights[d.0 as usize] < heights[best.0 as usize] {
-        d
-    } else {
-        best
+    16 * heights[d] + weight
+}
+
+// The weight of the least of five keys: of cell c and of the cells above, left, right and below, c itself for one that the tile has not.
+// All is read before the test.
+fn weight_of(heights: &[u32], marks: &[u8], c: usize, u: usize, l: usize, r: usize, d: usize) -> u8
+    requires { ⌜ (c < length (now heights)) × (u < length (now heights)) × (l < length (now heights)) ⌝ }
+    requires { ⌜ (r < length (now heights)) × (d < length (now heights)) × (c < length (now marks)) ⌝ }
+    requires { ⌜ ((i : ℕ) → at (now heights) i ≤ 16000000) ⌝ }
+    ensures { λ k. ⌜ k ≡ S.weightBy (now (heights .entry)) (at (now (marks .entry)) c) c u l r d ⌝ }
+{
+    let mark = marks[c];
+    let k0 = key(heights, c, 0);
+    let k1 = least_u32(k0, key(heights, u, 1));
+    let k2 = least_u32(k1, key(heights, l, 2));
+    let k3 = least_u32(k2, key(heights, r, 4));
+    let k4 = least_u32(k3, key(heights, d, 8));
+    let k = (k4 % 16) as u8;
+    if mark == 1 { 0 } else { k }
+}
+
+// The cell to the right of the first in a row, or the first itself.
+fn second(w: usize, b: usize) -> usize
+    requires { ⌜ b < 4096 ⌝ }
+    ensures { λ r. ⌜ r ≡ S.rightward w 0 b ⌝ }
+{
+    if 1 < w { b + 1 } else { b }
+}
+
+// The start of the row above, or of the row itself.
+fn row_above(w: usize, b: usize) -> usize
+    ensures { λ r. ⌜ r ≡ S.above w b ⌝ }
+{
+    if w <= b { b - w } else { b }
+}
+
+// The start of the row below, or of the row itself.
+fn row_below(w: usize, n: usize, b: usize) -> usize
+    requires { ⌜ (w ≤ 64) × (b < 4096) ⌝ }
+    ensures { λ r. ⌜ r ≡ S.below w n b ⌝ }
+{
+    if b + w < n { b + w } else { b }
+}
+
+// The weights of the row that starts at b, after those of all rows before it. The first and the last column, which miss a neighbour,
+// stand outside the loop. In the loop the cells before column x have their weights.
+fn row_weights(
+    w: usize,
+    heights: &[u32],
+    marks: &[u8],
+    b: usize,
+    up: usize,
+    down: usize,
+    out: &mut [u8],
+)
+    requires { ⌜ Tile w (now heights) (now marks) × S.Row w (length (now heights)) b up down ⌝ }
+    requires { ⌜ length (now heights) ≤ length (now out) ⌝ }
+    ensures { λ _. ⌜
+        ((old : List ℕ) → length (now (heights .entry)) ≤ length old
+        → now (out .entry) ≡ filled (S.weight w (now (heights .entry)) (now (marks .entry))) b old
+        → now (out .exit) ≡ filled (S.weight w (now (heights .entry)) (now (marks .entry))) (b + w) old)
+        ⌝ }
+{
+    out[b] = weight_of(heights, marks, b, up, b, second(w, b), down);
+    let mut x = 1;
+    while x + 1 < w {
+        let c = b + x;
+        out[c] = weight_of(heights, marks, c, up + x, c - 1, c + 1, down + x);
+        x += 1;
+    }
+    if 1 < w {
+        let e = w - 1;
+        let last = b + e;
+        out[last] = weight_of(heights, marks, last, up + e, last - 1, last, down + e);
     }
 }
 
-// The neighbour above c, in all rows but the first.
-fn try_up(heights: &[u32], w: usize, c: Cell, best: Cell) -> Cell
-    requires { ⌜ (best .0 < length (now heights)) × (c .0 < length (now heights)) ⌝ }
-    ensures { λ r. ⌜ (r .0 ≡ S.tryUp (now (heights .entry)) w (c .0) (best .0)) × (r .0 < length (now (heights .entry))) ⌝ }
+// The weights of all cells, row by row: in the loop the cells before b have theirs.
+pub fn weights(w: usize, heights: &[u32], marks: &[u8], out: &mut [u8])
+    requires { ⌜ Tile w (now heights) (now marks) × (length (now heights) ≤ length (now out)) ⌝ }
+    ensures { λ _. ⌜
+        now (out .exit)
+        ≡ filled (maskOf w (length (now (heights .entry))) (S.firstIs (tileLand w (now (heights .entry)) (now (marks .entry)))))
+        (length (now (heights .entry))) (now (out .entry))
+        ⌝ }
 {
-    let at = c.0 as usize;
-    if w <= at {
-        lower_of(heights, best, Cell((at - w) as u16))
-    } else {
-        best
+    let mut b = 0;
+    while b < heights.len() {
+        let up = row_above(w, b);
+        let down = row_below(w, heights.len(), b);
+        row_weights(w, heights, marks, b, up, down, out);
+        b += w;
     }
 }
 
-// The neighbour to the left of c, in all columns but the first.
-fn try_left(heights: &[u32], col: usize, c: Cell, best: Cell) -> Cell
-    requires { ⌜ (best .0 < length (now heights)) × (c .0 < length (now heights)) × (col ≤ c .0) ⌝ }
-    ensures { λ r. ⌜ (r .0 ≡ S.tryLeft (now (heights .entry)) col (c .0) (best .0)) × (r .0 < length (now (heights .entry))) ⌝ }
+// x where k is this weight, otherwise y.
+fn if_weight(k: u8, weight: u8, x: u16, y: u16) -> u16
+    ensures { λ r. ⌜ r ≡ cond (eqb k weight) x y ⌝ }
 {
-    if 0 < col {
-        lower_of(heights, best, Cell(c.0 - 1))
-    } else {
-        best
-    }
+    if k == weight { x } else { y }
 }
 
-// The neighbour to the right of c, in all columns but the last.
-fn try_right(heights: &[u32], w: usize, col: usize, c: Cell, best: Cell) -> Cell
-    requires { ⌜ (best .0 < length (now heights)) × (length (now heights) ≤ 4096) ⌝ }
-    requires { ⌜ (col < w) × (col + 1 < w → c .0 + 1 < length (now heights)) ⌝ }
-    ensures { λ r. ⌜ (r .0 ≡ S.tryRight (now (heights .entry)) w col (c .0) (best .0)) × (r .0 < length (now (heights .entry))) ⌝ }
+// The cell that c's weight leads to. All four are worked out before the tests: a cell that the tile has not may wrap, and isn't taken.
+fn led_to(w: u16, c: u16, k: u8) -> u16
+    requires { ⌜ (0 < w) × (w ≤ 64) × ((n : ℕ) × (d : ℕ) × (c < n) × (n ≤ 4096) × S.Placed w n c d k) ⌝ }
+    ensures { λ r. ⌜ r ≡ S.step w c k ⌝ }
 {
-    if col + 1 < w {
-        lower_of(heights, best, Cell(c.0 + 1))
-    } else {
-        best
-    }
-}
-
-// The neighbour below c, in all rows but the last.
-fn try_down(heights: &[u32], w: usize, c: Cell, best: Cell) -> Cell
-    requires { ⌜ (best .0 < length (now heights)) × (c .0 < length (now heights)) × (length (now heights) ≤ 4096) × (w ≤ 64) ⌝ }
-    ensures { λ r. ⌜ (r .0 ≡ S.tryDown (now (heights .entry)) w (c .0) (best .0)) × (r .0 < length (now (heights .entry))) ⌝ }
-{
-    let down = c.0 as usize + w;
-    if down < heights.len() {
-        lower_of(heights, best, Cell(down as u16))
-    } else {
-        best
-    }
-}
-
-// The lowest of a cell and its neighbours: the cell itself where none is strictly lower. The cell is in column col.
-fn lowest(w: usize, heights: &[u32], col: usize, c: Cell) -> Cell
-    requires { ⌜ ((marks : List ℕ) × Tile w (now heights) marks) ⌝ }
-    requires { ⌜ (c .0 < length (now heights)) × (col ≡ c .0 % w) ⌝ }
-    ensures { λ r. ⌜ (r .0 ≡ S.lowest (now (heights .entry)) w (c .0)) × (r .0 < length (now (heights .entry))) ⌝ }
-{
-    let after_up = try_up(heights, w, c, c);
-    let after_left = try_left(heights, col, c, after_up);
-    let after_right = try_right(heights, w, col, c, after_left);
-    try_down(heights, w, c, after_right)
-}
-
-// The first receiver of a cell in column col; an outlet's and a pit's is written as its own number.
-fn first_receiver(w: usize, heights: &[u32], marks: &[u8], col: usize, c: Cell) -> Cell
-    requires { ⌜ Tile w (now heights) (now marks) ⌝ }
-    requires { ⌜ (c .0 < length (now heights)) × (col ≡ c .0 % w) ⌝ }
-    ensures { λ r. ⌜ r .0 ≡ firstReceiver (tileLand w (now (heights .entry)) (now (marks .entry))) (c .0) ⌝ }
-{
-    if is_outlet(marks, c) {
-        c
-    } else {
-        lowest(w, heights, col, c)
-    }
+    let up = if_weight(k, 1, std::num::wrapping_sub_u16(c, w), c);
+    let left = if_weight(k, 2, std::num::wrapping_sub_u16(c, 1), up);
+    let right = if_weight(k, 4, c + 1, left);
+    if_weight(k, 8, c + w, right)
 }
 
 // The first receivers of all cells.
-pub fn first_receivers(w: usize, heights: &[u32], marks: &[u8], receivers: &mut [u16])
-    requires { ⌜ Tile w (now heights) (now marks) ⌝ }
-    requires { ⌜ length (now heights) ≤ length (now receivers) ⌝ }
+pub fn first_receivers(w: usize, weights: &[u8], n: usize, out: &mut [u16])
+    requires { ⌜ ((heights : List ℕ) × (marks : List ℕ) × S.Weighed w n heights marks (now weights)) ⌝ }
+    requires { ⌜ (n ≤ length (now weights)) × (n ≤ length (now out)) ⌝ }
     ensures { λ _. ⌜
-        now (receivers .exit)
-        ≡ filled (firstReceiver (tileLand w (now (heights .entry)) (now (marks .entry)))) (length (now (heights .entry)))
-        (now (receivers .entry))
+        ((heights : List ℕ) → (marks : List ℕ) → S.Weighed w n heights marks (now (weights .entry))
+        → now (out .exit) ≡ filled (firstReceiver (tileLand w heights marks)) n (now (out .entry)))
         ⌝ }
 {
-    let mut col = 0;
+    let down = w as u16;
     let mut c = 0;
-    while c < heights.len() {
-        receivers[c] = first_receiver(w, heights, marks, col, Cell(c as u16)).0;
-        col = next_column(w, col);
+    while c < n {
+        out[c] = led_to(down, c as u16, weights[c]);
         c += 1;
     }
 }

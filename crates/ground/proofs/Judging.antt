@@ -2,34 +2,64 @@
 -- Assumes nothing.
 use mathlib.Core.Bool.{Bool, false, true}
 use mathlib.Core.List.{[], List}
-use mathlib.Core.Path.{refl, _∙_, _≡_}
+use mathlib.Core.Logic.{inl, inr, _⊎_}
+use mathlib.Core.Path.{refl, sym, _∙_, _≡_}
 use Prim.Native.Nat.{ℕ, _*_, _<_, _≤_}
-use borrow.Author.Tests.{le-leb, le-ltb, lt-leb, lt-ltb}
+use native.Mathlib.Omega.{arith}
+use lib.Dec.{eqb, ltb}
+use lib.ListN.{length}
+use borrow.Author.Tests.{eq-eqb, le-leb, le-ltb, lt-leb, lt-ltb, ne-eqb}
 use Rattle.ground.specs.Judge.{badHeight, badMark, judge, judgeCells, judgeLists, judgeMarks, judgeOutlet, judgeRecord}
 use Rattle.ground.specs.Judge.{outletAt, sizeAllowed}
 use Rattle.ground.specs.Record.{groundOfLists, heightIn, widthIn}
 use Rattle.kinds.specs.Kinds.{asCell}
+use Rattle.lists.proofs.Greatest.{greatest-bounds, greatest-found, greatest-none}
+use Rattle.lists.proofs.Tests.{lt-or-ge}
 use Rattle.lists.specs.Find.{find}
+use Rattle.lists.specs.Greatest.{greatest}
+use Rattle.lists.specs.Lists.{at}
 use Rattle.rules.specs.Ground.{cellsOf, Ground}
 use Rattle.ground.specs.declared.Judged.{Judged}
 use Rattle.ground.specs.declared.Judged.the-variants.{Accepted, Refused}
 use Rattle.ground.specs.declared.Refusal.the-variants.{BadDistance, BadHeight, BadLength, BadMark, BadSize, NoOutlet, NoRoom}
 
--- the marks: `bad` is what the search for a bad one gave, and `out` what the search for an outlet gave
-module _ (g : Ground) {bad : ℕ} (e : bad ≡ find (badMark (g .marks)) (cellsOf g)) where
-  pub marks-bad : bad < cellsOf g → Refused (BadMark (asCell bad)) ≡ judgeMarks g
+-- of marks that are 0 or 1, the outlets are those above 0
+outlet-above : (mark : ℕ) → mark ≤ 1 → eqb mark 1 ≡ ltb 0 mark
+outlet-above mark h = go (lt-or-ge 0 mark)
+  where
+    go : (0 < mark) ⊎ (mark ≤ 0) → eqb mark 1 ≡ ltb 0 mark
+    go (inl l) = eq-eqb mark 1 (omega arith) ∙ sym (lt-ltb 0 mark l)
+    go (inr l) = ne-eqb mark 1 (λ e. omega arith) ∙ sym (le-ltb 0 mark l)
+
+-- the marks: the greatest decides, and `bad` is what the search for a bad one gave
+module _ (g : Ground) (full : length (g .marks) ≡ cellsOf g) where
+  pub marks-bad : {bad : ℕ} → bad ≡ find (badMark (g .marks)) (cellsOf g) → 1 < greatest (g .marks)
+      → Refused (BadMark (asCell bad)) ≡ judgeMarks g
   unfolding judgeMarks
-  marks-bad l = rw (← e, lt-leb (cellsOf g) bad l)
+  marks-bad {bad} e h =
+      let found = greatest-found (badMark (g .marks)) (g .marks) 1 full (λ k m. refl) h in
+      rw (← e, lt-leb (cellsOf g) bad (rw e found))
 
-  pub marks-without-outlet : {out : ℕ} → out ≡ find (outletAt (g .marks)) (cellsOf g) → cellsOf g ≤ bad → cellsOf g ≤ out
-      → Refused NoOutlet ≡ judgeMarks g
-  unfolding judgeMarks judgeOutlet
-  marks-without-outlet {out} o l k = rw (← e, ← o, le-leb (cellsOf g) bad l, le-ltb out (cellsOf g) k)
+  -- where it is at most 1, no mark is bad, and the outlets are the marks above 0
+  none-bad : greatest (g .marks) ≤ 1 → find (badMark (g .marks)) (cellsOf g) ≡ cellsOf g
+  none-bad h = greatest-none (badMark (g .marks)) (g .marks) 1 full (λ k m. refl) h
 
-  pub marks-good : {out : ℕ} → out ≡ find (outletAt (g .marks)) (cellsOf g) → cellsOf g ≤ bad → out < cellsOf g
-      → Accepted (g .width) (g .height) ≡ judgeMarks g
+  outlets-above : greatest (g .marks) ≤ 1 → (k : ℕ) → k < cellsOf g → outletAt (g .marks) k ≡ ltb 0 (at (g .marks) k)
+  outlets-above h k m = outlet-above (at (g .marks) k) (greatest-bounds (g .marks) 1 h k (rw full m))
+
+  pub marks-without-outlet : greatest (g .marks) ≤ 0 → Refused NoOutlet ≡ judgeMarks g
   unfolding judgeMarks judgeOutlet
-  marks-good {out} o l k = rw (← e, ← o, le-leb (cellsOf g) bad l, lt-ltb out (cellsOf g) k)
+  marks-without-outlet h =
+      let n = cellsOf g in
+      let o = greatest-none (outletAt (g .marks)) (g .marks) 0 full (outlets-above (omega arith)) h in
+      rw (none-bad (omega arith), o, le-leb n n (omega arith), le-ltb n n (omega arith))
+
+  pub marks-good : greatest (g .marks) ≡ 1 → Accepted (g .width) (g .height) ≡ judgeMarks g
+  unfolding judgeMarks judgeOutlet
+  marks-good h =
+      let n = cellsOf g in
+      let o = greatest-found (outletAt (g .marks)) (g .marks) 0 full (outlets-above (omega arith)) (omega arith) in
+      rw (none-bad (omega arith), le-leb n n (omega arith), lt-ltb (find (outletAt (g .marks)) n) n o)
 
 -- heights and water have no part in it
 pub marks-decide : (g : Ground) → judgeMarks (groundOfLists (g .width) (g .height) [] (g .marks) []) ≡ judgeMarks g

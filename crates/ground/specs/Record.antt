@@ -1,12 +1,12 @@
 -- Document 01, "Records": the bytes of a ground record as one definition, and the ground that a record says.
 -- Assumes nothing.
 use mathlib.Core.Bool.{Bool, _&&_}
-use mathlib.Core.List.{List, _++_}
+use mathlib.Core.List.{List, map, _++_}
 use Prim.Native.Nat.{ℕ, _*_, _+_, _-_}
 use lib.Dec.{eqb}
 use lib.IntN.{ℤ}
 use lib.ListN.{length}
-use Rattle.heights.specs.Bits.{heightsAt, heightSection}
+use Rattle.heights.specs.Bits.{heightsAt, heightSection, liftedBits}
 use Rattle.lists.specs.Lent.{stretch}
 use Rattle.little.specs.Little.{bytesOf, numberAt, numbersAt, sectionOf}
 use Rattle.rules.specs.Ground.{Ground}
@@ -36,6 +36,10 @@ abbrev pub distancesRight : List ℕ → ℕ → Bool
 distancesRight s n =
     eqb (numberAt 4 s (trailerAt s + 4)) (7 * n)
     && (eqb (numberAt 4 s (trailerAt s + 8)) (3 * n) && eqb (numberAt 4 s (trailerAt s + 12)) (2 * n))
+
+-- the heights of its first n cells, lifted; bits that are no height's come out above 16,000,000
+abbrev pub liftsIn : List ℕ → ℕ → List ℕ
+liftsIn s n = map liftedBits (numbersAt 4 s 0 n)
 
 -- the ground of lists
 abbrev pub groundOfLists : ℕ → ℕ → List ℤ → List ℕ → List ℕ → Ground

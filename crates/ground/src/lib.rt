@@ -9,8 +9,9 @@ ghost use Rattle.ground.specs.Judge.{numberOf, placeOf, refusalNumber, r
 ghost use Rattle.ground.specs.Record.{groundIn, groundOfLists};
 use kinds::Cell;
 
+mod greatest; // greatest.rt: the greatest height and the greatest mark, which say whether anything is wrong
 mod limits; // limits.rt: what is judged without a look at the cells
-mod search; // search.rt: the first bad height, the first bad mark, the first outlet
+mod search; // search.rt: the first bad height and the first bad mark, where something is wrong
 
 // Why a ground is refused; `numberOf` and `placeOf` of specs/Judge.antt give the numbers of document 01.
 pub enum Refusal {
@@ -102,31 +103,35 @@ pub fn cells(width: u16, height: u16) -> usize
     limits::wide(height) * limits::wide(width)
 }
 
-// 5 and 6: the marks of a tile.
+// 5 and 6: the marks of a tile. The greatest says whether a mark is bad, and then whether a cell is an outlet.
 fn judge_marks(marks: &[u8], width: u16, height: u16) -> Judged
     requires { ⌜ (width ≤ 64) × (height ≤ 64) × (length (now marks) ≡ height * width) ⌝ }
     ensures { λ r. ⌜ r ≡ judgeMarks (groundOfLists width height [] (now (marks .entry)) []) ⌝ }
 {
-    let n = cells(width, height);
-    let bad = search::first_bad_mark(marks, limits::wide(width), limits::wide(height));
-    if bad < n {
+    let most = greatest::greatest_mark(marks);
+    if most > 1 {
+        let bad = search::first_bad_mark(marks, limits::wide(width), limits::wide(height));
         return Judged::Refused(Refusal::BadMark(Cell(bad as u16)));
     }
-    if search::first_outlet(marks) < n {
+    if most == 1 {
         Judged::Accepted(width, height)
     } else {
         Judged::Refused(Refusal::NoOutlet)
     }
 }
 
-// 4, 5 and 6, of a record.
+// 4, 5 and 6, of a record. The greatest height says whether one is bad.
 fn judge_cells_of_record(bytes: &[u8], width: u16, height: u16) -> Judged
     requires { ⌜ (width ≤ 64) × (height ≤ 64) × (length (now bytes) ≡ 7 * (height * width) + 16) ⌝ }
     ensures { λ r. ⌜ r ≡ judgeCells (groundIn (now (bytes .entry)) width height) ⌝ }
 {
     let n = cells(width, height);
-    let bad = search::first_bad_height_of_record(bytes, limits::wide(width), limits::wide(height));
-    if bad < n {
+    if greatest::greatest_height_of_record(bytes, n) > 16_000_000 {
+        let bad = search::first_bad_height_of_record(
+            bytes,
+            limits::wide(width),
+            limits::wide(height),
+        );
         return Judged::Refused(Refusal::BadHeight(Cell(bad as u16)));
     }
     let from = 4 * n;

@@ -8,7 +8,7 @@ ghost use Rattle.lists.specs.Find.{find};
 ghost use Rattle.rules.specs.Ground.{heightInRange};
 ghost use Rattle.little.specs.Little.{numberAt};
 ghost use Rattle.heights.specs.Bits.{heightsAt, signedOf};
-ghost use Rattle.ground.specs.Judge.{badHeight, badMark, outletAt};
+ghost use Rattle.ground.specs.Judge.{badHeight, badMark};
 
 // The height in the four bytes of this cell is out of range.
 fn is_bad_in_record(bytes: &[u8], cell: usize) -> bool
@@ -80,18 +80,4 @@ pub fn first_bad_mark(marks: &[u8], width: usize, height: usize) -> usize
         }
     }
     place
-}
-
-// The first outlet.
-pub fn first_outlet(marks: &[u8]) -> usize
-    ensures { λ r.
-        let marked = now (marks .entry) in
-        ⌜ (r ≡ find (outletAt marked) (length marked)) × (r ≤ length marked) ⌝ }
-{
-    for cell in 0..marks.len() {
-        if marks[cell] == 1 {
-            return cell;
-        }
-    }
-    marks.len()
 }

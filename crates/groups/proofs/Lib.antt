@@ -1,3 +1,4 @@
 pub mod Roots
 pub mod Merging
 pub mod Following
+pub mod Renamed

@@ -62,9 +62,11 @@ module _ (g : Ground) (G : Good g) where
       rw (level-peak L r (w .1)) (peak-below L (at r) 16000000 (λ d k. good-tile g G .low d) (w .1))
 
   -- the tile of the lifted lists is the land of the ground
+  pub tile-is-land : tileLand (g .width) (map lifted (g .heights)) (g .marks) ≡ land4 g
+  tile-is-land = ap (λ (n : ℕ). tile4 (g .width) n (map lifted (g .heights)) (g .marks)) (raised-full g G)
+
   pub worked-land : {s s′ : Outputs} → Worked tile (g .water) s s′ → Worked L (g .water) s s′
-  worked-land {s} {s′} W =
-      subst (λ (n : ℕ). Worked (tile4 (g .width) n (map lifted (g .heights)) (g .marks)) (g .water) s s′) (raised-full g G) W
+  worked-land {s} {s′} W = subst (λ (K : Land). Worked K (g .water) s s′) tile-is-land W
 
   pub levels-droppable : {l : List ℕ} → l ≡ tab (cellsOf g) (level L r) → Lifted l
   levels-droppable {l} e k h =

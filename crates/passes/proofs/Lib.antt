@@ -1,5 +1,3 @@
-pub mod OutletTurns
+pub mod IsChosen
+pub mod JoinsChosen
 pub mod PickTurns
-pub mod Renamed
-pub mod Started
-pub mod RuleFour

@@ -1,141 +1,107 @@
--- One turn of the loop that picks: the answer for a key, and the groups once its basins are joined.
+-- The loop that picks pairs in place: after i of them the picked ones stand at the front, the groups follow all i, and from i on the
+-- list is as it was. No more are picked than were met, so that the next is written no later than where it stood.
 -- Assumes nothing.
-use mathlib.Core.Bool.{Bool, cond, false, true}
-use mathlib.Core.List.{List}
-use mathlib.Core.Logic.{inl, inr, _⊎_}
+use mathlib.Core.Bool.{Bool, cond}
+use mathlib.Core.List.{[], List, _++_, _∷_}
 use mathlib.Core.Path.{ap, refl, subst, sym, _∙_, _≡_}
 use Prim.Native.Nat.{ℕ, _+_, _<_, _≤_}
 use native.Mathlib.Numerals.{add-one}
 use native.Mathlib.Omega.{arith}
 use lib.Dec.{eqb}
-use lib.ListN.{length, set, take}
-use lib.Seq.{take-length, take-suc}
-use borrow.Author.Tests.{eqb-false, eqb-true}
-use Rattle.crossings.specs.Keys.{greaterCell, lesserCell}
+use lib.ListN.{length, length-set, set, take}
+use lib.Seq.{getD-set-other, take-length, take-suc}
 use Rattle.groups.proofs.Following.{follows-next, follows-none}
-use Rattle.groups.proofs.Roots.{root-below}
-use Rattle.groups.specs.Groups.{Follows, Joined, rootOf, seenBy, twoGroups}
-use Rattle.lists.proofs.Fill.{filled-length, filled-next, filled-none}
-use Rattle.lists.proofs.Sorting.{mem-take}
-use Rattle.lists.proofs.Tests.{is, isnt, Known, known, never}
-use Rattle.lists.specs.Lists.{at, filled}
-use Rattle.passes.specs.Picking.{joinedBefore, keyEdges, Pickable, Picked, pickedAt}
-use Rattle.rules.proofs.Labels.{Chain→joined, joined→Chain, Within}
-use Rattle.rules.specs.Chain.{Chain, Edges}
+use Rattle.groups.proofs.Roots.{alone-down}
+use Rattle.groups.specs.Groups.{Follows, Joined, twoGroups}
+use Rattle.lists.proofs.Packs.{pack-bit}
+use Rattle.lists.proofs.Ranges.{keep-append, length-range}
+use Rattle.lists.proofs.Sorting.{at-mem}
+use Rattle.lists.specs.Lists.{at, keep, upto}
+use Rattle.pairs.specs.Pairs.{greaterOf, lesserOf}
+use Rattle.passes.proofs.JoinsChosen.{ends-on, joins-chosen, label-in, pairEdges}
+use Rattle.passes.specs.Picking.{isChosen, Pickable, Picked}
+use Rattle.rules.specs.Land.{Land}
 
--- an answer is 1 or 0
-pub picked-bit : (g basins keys : List ℕ) (i : ℕ) → (pickedAt g basins keys i ≡ 1) ⊎ (pickedAt g basins keys i ≡ 0)
-unfolding pickedAt
-picked-bit g basins keys i = go (joinedBefore g basins keys i (at keys i))
-  where
-    go : (b : Bool) → (_≡_ {A = ℕ} (cond b 0 1) 1) ⊎ (_≡_ {A = ℕ} (cond b 0 1) 0)
-    go true = inr refl
-    go false = inl refl
+pub record Picking (w : ℕ) (labels list₀ : List ℕ) (m i : ℕ) (g list : List ℕ) : Type 0 where
+  pub long : length list ≡ length list₀
+  pub sized : length g ≡ 4097
+  pub behind : m ≤ i
+  pub groups : Follows (pairEdges w labels) (upto 4097) (take i list₀) g
+  pub rest : (k : ℕ) → i ≤ k → at list k ≡ at list₀ k
+  pub picked : (L : Land) → Pickable L w labels list₀ → take m list ≡ keep (isChosen L w) (take i list₀)
 
-module _ {keys basins g picked : List ℕ} (w : Pickable keys basins g picked) where
-  -- the keys as edges between groups of g
-  abbrev pub S : Edges ℕ
-  S = seenBy (rootOf g) (keyEdges basins)
+pub picking-none : (w : ℕ) (labels list₀ g : List ℕ) → g ≡ upto 4097 → Picking w labels list₀ 0 0 g list₀
+picking-none w labels list₀ g e =
+    record {
+      long = refl;
+      sized = ap length e ∙ length-range 4097 0;
+      behind = omega arith;
+      groups =
+          subst (λ (l : List ℕ). Follows (pairEdges w labels) (upto 4097) [] l) (sym e)
+          (follows-none (pairEdges w labels) (upto 4097) (alone-down 4097));
+      rest = λ k h. refl;
+      picked = λ L P. refl;
+    }
 
-  pub lesser-in : (i : ℕ) → i < length keys → at basins (lesserCell (at keys i)) < length g
-  lesser-in i h = w .basins-in (lesserCell (at keys i)) (w .cells-in i h .0)
+module _ {w : ℕ} {labels list₀ : List ℕ} {m i : ℕ} {g list : List ℕ} (Q : Picking w labels list₀ m i g list) where
+  module _ (pickable : (L : Land) × Pickable L w labels list₀) (l : i < length list₀) where
+    same : at list i ≡ at list₀ i
+    same = Q .rest i (omega arith)
 
-  pub greater-in : (i : ℕ) → i < length keys → at basins (greaterCell (at keys i)) < length g
-  greater-in i h = w .basins-in (greaterCell (at keys i)) (w .cells-in i h .1)
+    -- the next pair's greater cell has a label, and labels have groups
+    pub next-on : greaterOf w (at list i) < length labels
+    next-on = rw same (ends-on (pickable .1) (at list₀ i) (at-mem list₀ i l) .1)
 
-  root-in : (b : ℕ) → b < length g → rootOf g b < length g
-  root-in b h = let a : rootOf g b ≤ b = root-below g (w .down) b in omega arith
+    pub labels-in : (c : ℕ) → c < length labels → at labels c < length g
+    labels-in c h = omega (arith, pickable .1 .small c h, Q .sized)
 
-  one-in : (i : ℕ) → i < length keys → S .one (at keys i) < length g
-  one-in i h = root-in (at basins (lesserCell (at keys i))) (lesser-in i h)
+    more : take (i + 1) list₀ ≡ take i list₀ ++ (at list₀ i ∷ [])
+    more = ap (λ (n : ℕ). take n list₀) (add-one i) ∙ take-suc list₀ i 0 l
 
-  other-in : (i : ℕ) → i < length keys → S .other (at keys i) < length g
-  other-in i h = root-in (at basins (greaterCell (at keys i))) (greater-in i h)
-
-  keys-within : (i : ℕ) → Within S (length g) (take i keys)
-  keys-within i x m =
-      let (j, l, h, e) = mem-take i keys m in
-      (subst (λ (k : ℕ). S .one k < length g) (sym e) (one-in j h), subst (λ (k : ℕ). S .other k < length g) (sym e) (other-in j h))
-
-  -- the computed test, and the chains that it speaks of
-  module _ (i : ℕ) (h : i < length keys) where
-    pub joined-chain : joinedBefore g basins keys i (at keys i) ≡ true → Chain S (take i keys) (S .one (at keys i)) (S .other (at keys i))
-    unfolding joinedBefore
-    joined-chain t =
-        joined→Chain S (length g) (take i keys) (S .one (at keys i)) (S .other (at keys i)) (keys-within i) (one-in i h) (other-in i h) t
-
-    pub chain-joined : Chain S (take i keys) (S .one (at keys i)) (S .other (at keys i)) → joinedBefore g basins keys i (at keys i) ≡ true
-    unfolding joinedBefore
-    chain-joined c = Chain→joined S (length g) (take i keys) (S .one (at keys i)) (S .other (at keys i)) (keys-within i) c
-
-    -- a key is picked exactly if the keys before it don't join its basins
-    pub picked-apart : pickedAt g basins keys i ≡ 1 → Chain S (take i keys) (S .one (at keys i)) (S .other (at keys i)) → ⊥
-    unfolding pickedAt
-    picked-apart t c = let z : _≡_ {A = ℕ} 0 1 = rw (chain-joined c) at t in omega arith
-
-    pub apart-picked : (Chain S (take i keys) (S .one (at keys i)) (S .other (at keys i)) → ⊥) → pickedAt g basins keys i ≡ 1
-    unfolding pickedAt
-    apart-picked n = rw (never (joinedBefore g basins keys i (at keys i)) (λ t. n (joined-chain t)))
-
-    -- the groups h that follow the keys before it give the same answer
-    pub answer : (h : List ℕ) → Follows (keyEdges basins) g (take i keys) h
-        → twoGroups h (at basins (lesserCell (at keys i))) (at basins (greaterCell (at keys i))) ≡ pickedAt g basins keys i
-    unfolding twoGroups pickedAt
-    answer k f = go (known (eqb (rootOf k a) (rootOf k b)))
+    -- one pair more
+    pub picking-next : {r : ℕ} {h : List ℕ} → r ≡ twoGroups g (at labels (lesserOf (at list i))) (at labels (greaterOf w (at list i)))
+        → Joined g (at labels (lesserOf (at list i))) (at labels (greaterOf w (at list i))) h → length h ≡ length g
+        → Picking w labels list₀ (m + r) (i + 1) h (set list m (at list i))
+    picking-next {r} {h} e j k =
+        record {
+          long = length-set list m (at list i) ∙ Q .long;
+          sized = k ∙ Q .sized;
+          behind = omega (arith, Q .behind, answer (pickable .0) (pickable .1) .0);
+          groups =
+              subst (λ (es : List ℕ). Follows (pairEdges w labels) (upto 4097) es h) (sym more)
+              (follows-next (pairEdges w labels) (upto 4097) g h (at list₀ i) (take i list₀) (label-in P _ (on .0)) (label-in P _ (on .1))
+              j₀ (Q .groups));
+          rest = λ k′ a.
+              getD-set-other list m k′ (at list i) 0 (λ z. omega (arith, Q .behind)) ∙ Q .rest k′ (omega arith);
+          picked = λ L P.
+              let s = answer L P in
+              let before = keep (isChosen L w) (take i list₀) in
+              pack-bit list before m (at list i) r (Q .picked L P) (omega (arith, Q .behind, Q .long)) (s .0)
+              ∙ ap (λ (z : ℕ). before ++ cond (eqb r 1) (z ∷ []) []) same
+              ∙ ap (λ (t : Bool). before ++ cond t (at list₀ i ∷ []) []) (sym (s .1))
+              ∙ sym (keep-append (isChosen L w) (take i list₀) (at list₀ i ∷ []))
+              ∙ ap (keep (isChosen L w)) (sym more);
+        }
       where
-        a : ℕ
-        a = at basins (lesserCell (at keys i))
+        P : Pickable (pickable .0) w labels list₀
+        P = pickable .1
 
-        b : ℕ
-        b = at basins (greaterCell (at keys i))
+        on : (lesserOf (at list₀ i) < length labels) × (greaterOf w (at list₀ i) < length labels)
+        on = ends-on (pickable .1) (at list₀ i) (at-mem list₀ i l)
 
-        go : Known (eqb (rootOf k a) (rootOf k b))
-            → _≡_ {A = ℕ} (cond (eqb (rootOf k a) (rootOf k b)) 0 1) (cond (joinedBefore g basins keys i (at keys i)) 0 1)
-        go (is e) = rw (e, chain-joined (f .chained a b (lesser-in i h) (greater-in i h) (eqb-true _ _ e)))
-        go (isnt e) = rw (e, never (joinedBefore g basins keys i (at keys i)) apart)
-          where
-            apart : joinedBefore g basins keys i (at keys i) ≡ true → ⊥
-            apart t = eqb-false _ _ e (f .grouped a b (lesser-in i h) (greater-in i h) (joined-chain t))
+        e₀ : r ≡ twoGroups g (at labels (lesserOf (at list₀ i))) (at labels (greaterOf w (at list₀ i)))
+        e₀ = e ∙ ap (λ (z : ℕ). twoGroups g (at labels (lesserOf z)) (at labels (greaterOf w z))) same
 
--- the state of the loop after i keys: each of them has its answer, and the groups follow them
-pub record Picking (keys basins g₀ picked₀ : List ℕ) (i : ℕ) (g picked : List ℕ) : Type 0 where
-  pub answers : picked ≡ filled (pickedAt g₀ basins keys) i picked₀
-  pub long : length g ≡ length g₀
-  pub groups : Follows (keyEdges basins) g₀ (take i keys) g
+        j₀ : Joined g (at labels (lesserOf (at list₀ i))) (at labels (greaterOf w (at list₀ i))) h
+        j₀ = subst (λ (z : ℕ). Joined g (at labels (lesserOf z)) (at labels (greaterOf w z)) h) same j
 
-module _ {keys basins g₀ picked₀ : List ℕ} (w : Pickable keys basins g₀ picked₀) where
-  pub picking-none : Picking keys basins g₀ picked₀ 0 g₀ picked₀
-  picking-none =
+        answer : (L : Land) → Pickable L w labels list₀ → (r ≤ 1) × (isChosen L w (at list₀ i) ≡ eqb r 1)
+        answer L P = joins-chosen P i l g (Q .groups) r e₀
+
+  -- all pairs
+  pub picking-all : i ≡ length list₀ → (L : Land) → Pickable L w labels list₀ → Picked L w list₀ list m
+  picking-all e L P =
       record {
-        answers = sym (filled-none (pickedAt g₀ basins keys) picked₀);
-        long = refl;
-        groups = follows-none (keyEdges basins) g₀ (w .down);
+        within = omega (arith, Q .behind);
+        kept = Q .picked L P ∙ ap (keep (isChosen L w)) (ap (λ (n : ℕ). take n list₀) e ∙ take-length list₀);
       }
-
-  pub picking-long : (i : ℕ) {g picked : List ℕ} → i ≤ length keys → Picking keys basins g₀ picked₀ i g picked
-      → length picked ≡ length picked₀
-  picking-long i h P = ap length (P .answers) ∙ filled-length (pickedAt g₀ basins keys) i picked₀ (omega (arith, w .room))
-
-  -- one key more: its basins are a and b, r says whether they were in two groups, and h has them joined
-  pub picking-next : {i : ℕ} {g picked h : List ℕ} {a b r : ℕ} → Picking keys basins g₀ picked₀ i g picked → i < length keys
-      → a ≡ at basins (lesserCell (at keys i)) → b ≡ at basins (greaterCell (at keys i))
-      → (r ≡ twoGroups g a b) × Joined g a b h → length h ≡ length g → Picking keys basins g₀ picked₀ (i + 1) h (set picked i r)
-  picking-next {i} {g} {picked} {h} {a} {b} {r} P l x y u k =
-      let f = pickedAt g₀ basins keys in
-      let e : r ≡ f i = rw (x, y) at (u .0) ∙ answer w i l g (P .groups) in
-      let j : Joined g (at basins (lesserCell (at keys i))) (at basins (greaterCell (at keys i))) h = rw (x, y) at (u .1) in
-      record {
-        answers = rw (P .answers, e) (filled-next f i picked₀ (omega (arith, w .room)));
-        long = k ∙ P .long;
-        groups =
-            subst (λ (es : List ℕ). Follows (keyEdges basins) g₀ es h) (sym (ap (λ (n : ℕ). take n keys) (add-one i) ∙ take-suc keys i 0 l))
-            (follows-next (keyEdges basins) g₀ g h (at keys i) (take i keys) (lesser-in w i l) (greater-in w i l) j (P .groups));
-      }
-
-  -- all keys
-  pub picking-all : (i : ℕ) {g picked : List ℕ} → i ≡ length keys → Picking keys basins g₀ picked₀ i g picked
-      → Picked keys basins g₀ picked₀ picked × Follows (keyEdges basins) g₀ keys g
-  picking-all i {g} e P = (
-    P .answers ∙ rw e,
-    subst (λ (l : List ℕ). Follows (keyEdges basins) g₀ l g) (rw e (take-length keys)) (P .groups),
-  )

@@ -1,3 +1,1 @@
-pub mod Outlets
 pub mod Picking
-pub mod Starting

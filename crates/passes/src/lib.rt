@@ -1,53 +1,67 @@
-// Rule 4, chosen passes: groups of basins are joined along the crossings, the least crossing first. A crossing is a chosen pass where
-// it joins two groups. All outlet basins count as joined from the start: they are joined to the external basin.
+// Rule 4, chosen passes, from pairs that are enough crossings in order: a pair is a chosen pass where it joins two groups of labels.
+// All outlet basins have one label, so they count as joined from the start.
 ghost use mathlib.Core.Path.{_≡_};
-ghost use Prim.Native.Nat.{_<_};
+ghost use Prim.Native.Nat.{ℕ, _<_, _≤_};
 ghost use lib.ListN.{length};
-ghost use Rattle.groups.specs.Groups.{Follows};
-ghost use Rattle.lists.specs.Lists.{at};
-ghost use Rattle.passes.specs.Outlets.{Joinable, OutletsJoined};
-ghost use Rattle.passes.specs.Picking.{keyEdges, Pickable, Picked};
-use crossings::greater_cell;
-use crossings::lesser_cell;
+ghost use Rattle.groups.specs.Groups.{Down, Joined, twoGroups};
+ghost use Rattle.lists.specs.Lists.{at, upto};
+ghost use Rattle.pairs.specs.Pairs.{greaterOf, lesserOf};
+ghost use Rattle.passes.specs.Picking.{Pickable, Picked};
+ghost use Rattle.rules.specs.Land.{Land};
+use groups::alone;
 use groups::unite;
 use kinds::Basin;
-use kinds::Cell;
+use pairs::greater;
+use pairs::lesser;
 
-// The basin of cell c.
-pub fn basin_of(basins: &[u16], c: Cell) -> Basin
-    requires { ⌜ c .0 < length (now basins) ⌝ }
-    ensures { λ r. ⌜ r .0 ≡ at (now (basins .entry)) (c .0) ⌝ }
+// The groups of a pair's two labels become one. Gives 1 where they were two, and 0 where they were one already.
+fn join(w: usize, labels: &[u16], p: u16, group: &mut [u16]) -> u8
+    requires { ⌜ (w ≤ 64) × (length (now labels) ≤ 4096) × Down (now group) ⌝ }
+    requires { ⌜ (greaterOf w p < length (now labels)) × ((c : ℕ) → c < length (now labels) → at (now labels) c < length (now group)) ⌝ }
+    ensures { λ r. ⌜
+        (r ≡ twoGroups (now (group .entry)) (at (now (labels .entry)) (lesserOf p)) (at (now (labels .entry)) (greaterOf w p)))
+        × Joined (now (group .entry)) (at (now (labels .entry)) (lesserOf p)) (at (now (labels .entry)) (greaterOf w p)) (now (group .exit))
+        ⌝ }
 {
-    Basin(basins[c.0 as usize])
+    let a = lesser(p);
+    let b = greater(w, p);
+    unite(
+        group,
+        Basin(labels[a.0 as usize]),
+        Basin(labels[b.0 as usize]),
+    )
 }
 
-// The basins of all outlets become one group, with the external basin, whose number is the count of cells.
-pub fn join_outlets(marks: &[u8], basins: &[u16], group: &mut [u16])
-    requires { ⌜ Joinable (now marks) (now basins) (now group) ⌝ }
-    ensures { λ _. ⌜ OutletsJoined (now (marks .entry)) (now (basins .entry)) (now (group .entry)) (now (group .exit)) ⌝ }
+// Goes through the pairs in their order and joins the labels of each, in groups of 4,097 labels of their own. Each pair is written
+// to the next place of the picked ones, and then counted if it joined two groups. After i pairs the m picked ones stand at the front,
+// and from i on the list is as it was.
+fn pick_along(w: usize, labels: &[u16], group: &mut [u16], list: &mut [u16]) -> usize
+    requires { ⌜ ((L : Land) × Pickable L w (now labels) (now list)) ⌝ }
+    requires { ⌜ now group ≡ upto 4097 ⌝ }
+    ensures { λ r. ⌜
+        ((L : Land) → Pickable L w (now (labels .entry)) (now (list .entry)) → Picked L w (now (list .entry)) (now (list .exit)) r)
+        ⌝ }
 {
-    let external = basins.len() as u16;
-    let mut c = 0;
-    while c < marks.len() {
-        if marks[c] == 1 {
-            unite(group, Basin(basins[c]), Basin(external));
-        }
-        c += 1;
-    }
-}
-
-// Goes through the keys in their order and joins the two basins of each: 1 for a key that joins two groups, 0 for any other.
-pub fn pick_passes(keys: &[u64], basins: &[u16], group: &mut [u16], picked: &mut [u8])
-    requires { ⌜ Pickable (now keys) (now basins) (now group) (now picked) ⌝ }
-    ensures { λ _. ⌜ Picked (now (keys .entry)) (now (basins .entry)) (now (group .entry)) (now (picked .entry)) (now (picked .exit)) ⌝ }
-    ensures { λ _. ⌜ Follows (keyEdges (now (basins .entry))) (now (group .entry)) (now (keys .entry)) (now (group .exit)) ⌝ }
-{
+    let mut m = 0;
     let mut i = 0;
-    while i < keys.len() {
-        let key = keys[i];
-        let a = basin_of(basins, lesser_cell(key));
-        let b = basin_of(basins, greater_cell(key));
-        picked[i] = unite(group, a, b);
+    while i < list.len() {
+        let p = list[i];
+        let joined = join(w, labels, p, group);
+        list[m] = p;
+        m += joined as usize;
         i += 1;
     }
+    m
+}
+
+// The pairs of the chosen passes, in their order, at the start of the list. Gives their number.
+pub fn pick(w: usize, labels: &[u16], list: &mut [u16]) -> usize
+    requires { ⌜ ((L : Land) × Pickable L w (now labels) (now list)) ⌝ }
+    ensures { λ r. ⌜
+        ((L : Land) → Pickable L w (now (labels .entry)) (now (list .entry)) → Picked L w (now (list .entry)) (now (list .exit)) r)
+        ⌝ }
+{
+    let mut group = [0u16; 4097];
+    alone(&mut group);
+    pick_along(w, labels, &mut group, list)
 }

@@ -16,7 +16,7 @@ use Rattle.heights.proofs.Heights.{liftedBits-bitsOf}
 use Rattle.heights.specs.Bits.{liftedBits, signedOf}
 use Rattle.lists.proofs.Fill.{length-tab}
 use Rattle.lists.proofs.Tables.{map-tab, tab-same}
-use Rattle.lists.specs.Lent.{overwrite, stretch}
+use Rattle.lists.specs.Lent.{stretch}
 use Rattle.lists.specs.Lists.{filled, tab}
 use Rattle.little.specs.Little.{numberAt, numbersAt}
 use Rattle.record_network.specs.Lifted.{InRangeAt, liftedAt}
@@ -49,14 +49,14 @@ module _ (s : List ℕ) (w h : ℕ) (G : Good (groundIn s w h)) where
       ap (take n) e ∙ take-at (tab n (liftedAt s)) (drop n zeros) n (length-tab (liftedAt s) n)
       ∙ ap (λ (k : ℕ). tab k (liftedAt s)) z ∙ lifted-heights
 
-  -- and so is the water
+  -- and so is the water, where it stands
+  pub water-here : (n : ℕ) → n ≡ h * w → numbersAt 2 s (5 * n) n ≡ g .water
+  water-here n z = ap (λ (k : ℕ). numbersAt 2 s (5 * k) k) z
+
+  -- and as a list
   pub water-are : {out : List ℕ} (old : List ℕ) (n : ℕ) → n ≡ h * w → out ≡ numbersAt 2 s (5 * n) n ++ drop n old → take n out ≡ g .water
   water-are {out} old n z e =
-      ap (take n) e ∙ take-at (numbersAt 2 s (5 * n) n) (drop n old) n (length-tab (λ k. numberAt 2 s (5 * n + 2 * k)) n)
-      ∙ ap (λ (k : ℕ). numbersAt 2 s (5 * k) k) z
-
-  pub water-left : {out : List ℕ} (old : List ℕ) (n : ℕ) → n ≡ h * w → out ≡ numbersAt 2 s (5 * n) n ++ drop n old → out ≡ overwrite (g .water) old
-  water-left {out} old n z e = e ∙ rw (length-tab (λ k. numberAt 2 s (5 * (h * w) + 2 * k)) (h * w), z)
+      ap (take n) e ∙ take-at (numbersAt 2 s (5 * n) n) (drop n old) n (length-tab (λ k. numberAt 2 s (5 * n + 2 * k)) n) ∙ water-here n z
 
   -- the marks stand in the record
   pub marks-are : (n : ℕ) → n ≡ h * w → stretch (4 * n) (5 * n - 4 * n) s ≡ g .marks

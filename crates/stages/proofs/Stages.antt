@@ -1,34 +1,40 @@
 -- What one stage of the network leaves is what the next one asks for, and what the last one leaves is the network.
 -- Assumes nothing.
-use mathlib.Core.List.{List, map, _++_}
+use mathlib.Core.List.{List, _++_}
 use mathlib.Core.Path.{ap, refl, subst, sym, _∙_, _≡_}
-use Prim.Native.Nat.{ℕ, _+_, _-_, _<_, _≤_}
+use Prim.Native.Nat.{ℕ, _+_, _-_, _*_, _≤_}
 use native.Mathlib.Omega.{arith}
-use lib.ListN.{drop, length, length-append, length-drop, length-map, List·getD-append, take}
-use lib.Seq.{drop-at, getD-take, length-take-le, take-at}
+use lib.ListN.{drop, length, length-append, length-drop, List·getD-append, take}
+use lib.Seq.{drop-at, length-take-le, take-at}
 use Rattle.basins.specs.Jumps.{FirstReceivers}
-use Rattle.choose.proofs.Chosen.{chose-keys, chose-picked}
-use Rattle.choose.proofs.Marked.{chosen-is, is-chosen}
-use Rattle.choose.specs.Choose.{Chose, isChosen}
-use Rattle.crossings.specs.Keys.{keyOf, Listed}
-use Rattle.drainage.proofs.Stages.{tile-levelled, tile-ordered}
-use Rattle.drainage.specs.Giving.{Levelled, Ordered}
-use Rattle.links.proofs.Network.{Answers}
-use Rattle.lists.proofs.Entries.{filled-at}
+use Rattle.choose.specs.Choosing.{Choosable, ChosenPairs}
+use Rattle.drainage.proofs.Stages.{tile-ordered}
+use Rattle.drainage.specs.Giving.{Ordered}
+use Rattle.first.proofs.Keys.{weights-weighed}
+use Rattle.first.specs.Sides.{firstIs, Weighed}
+use Rattle.first_links.proofs.FromWeights.{weights-leading}
+use Rattle.first_links.specs.Adding.{Leading}
+use Rattle.lists.proofs.Entries.{filled-at, filled-by}
 use Rattle.lists.proofs.Fill.{filled-length, length-tab}
-use Rattle.lists.proofs.Tables.{getD-map}
+use Rattle.lists.proofs.Ranges.{at-tab}
 use Rattle.lists.specs.Lists.{at, filled, tab}
-use Rattle.rules.proofs.ChosenPasses.{picked}
-use Rattle.rules.proofs.Draining.{receivers-drain}
+use Rattle.pass_links.proofs.PairNetwork.{pairs-linkage, tile-addable}
+use Rattle.pass_links.specs.PairLinks.{Addable, withPairs}
 use Rattle.rules.specs.Carving.{receivers}
 use Rattle.rules.specs.FirstWays.{basin, firstReceiver}
 use Rattle.rules.specs.Land.{Land}
-use Rattle.rules.specs.Network.{drainage, wet}
-use Rattle.rules.specs.Way.{Drains}
-use Rattle.stages.specs.Worked.{Found, outputs, Outputs, Worked}
-use Rattle.tiles.proofs.Laws.{tile-lawful}
+use Rattle.rules.specs.Network.{drainage}
+use Rattle.rules.specs.NodeLabels.{labelOf}
+use Rattle.stages.specs.Worked.{Flow, flow, Linkable, Linked, outputs, Walked, Worked}
+use Rattle.tiles.specs.Masks.{joined, maskOf}
 use Rattle.tiles.specs.Tile.{HasOutlet, Tile, tileLand}
-use Rattle.walk.specs.Walk.{lent, Walked}
+use Rattle.walk.specs.Walk as W
+use Rattle.walk.specs.Walk.{lent, Linkage}
+
+-- what is past n alone matters to a list that is filled
+pub filled-over : (f : ℕ → ℕ) (n : ℕ) (a b : List ℕ) → drop n a ≡ drop n b → filled f n a ≡ filled f n b
+unfolding filled
+filled-over f n a b e = ap (λ (l : List ℕ). tab n f ++ l) e
 
 module _ (w : ℕ) (heights marks : List ℕ) (T : Tile w heights marks) where
   abbrev land : Land
@@ -37,112 +43,141 @@ module _ (w : ℕ) (heights marks : List ℕ) (T : Tile w heights marks) where
   abbrev n : ℕ
   n = length heights
 
-  -- first receivers, copied, are first receivers
-  pub copied-firsts : {f b : List ℕ} (firsts basins : List ℕ) → n ≤ length firsts → n ≤ length basins
-      → f ≡ filled (firstReceiver land) n firsts → b ≡ take n f ++ drop n basins → FirstReceivers land n b
-  copied-firsts {f} {b} firsts basins h k e g =
-      let l : length f ≡ length firsts = ap length e ∙ filled-length (firstReceiver land) n firsts h in
-      let t : length (take n f) ≡ n = length-take-le n f (omega arith) in
-      let d : length (drop n basins) ≡ length basins - n = length-drop n basins in
-      let m : length b ≡ length (take n f) + length (drop n basins) = ap length g ∙ length-append (take n f) (drop n basins) in
+  -- weights, as first receivers and links ask for them
+  pub weighed : {weights : List ℕ} (old : List ℕ) → weights ≡ filled (maskOf w n (firstIs land)) n old → Weighed w n heights marks weights
+  weighed {weights} old e = weights-weighed w heights marks T old weights e
+
+  pub leading : {weights : List ℕ} (old : List ℕ) → n ≤ length weights → weights ≡ filled (maskOf w n (firstIs land)) n old
+      → Leading w n (firstReceiver land) weights
+  leading {weights} old room e = weights-leading w heights marks T weights room (weighed old e)
+
+  -- first receivers, as basins ask for them
+  pub firsts-are : {b : List ℕ} (basins : List ℕ) → n ≤ length basins → b ≡ filled (firstReceiver land) n basins → FirstReceivers land n b
+  firsts-are {b} basins h e =
       record {
         cells = refl;
         few = T .few;
-        room = omega arith;
-        firsts = λ c i. ap (λ (z : List ℕ). at z c) g ∙ List·getD-append (take n f) (drop n basins) 0 c (omega arith)
-            ∙ getD-take n f c 0 i ∙ ap (λ (z : List ℕ). at z c) e ∙ filled-at (firstReceiver land) n firsts c i;
+        room = let l : length b ≡ length basins = ap length e ∙ filled-length (firstReceiver land) n basins h in omega arith;
+        firsts = λ c i. ap (λ (z : List ℕ). at z c) e ∙ filled-at (firstReceiver land) n basins c i;
         whole = λ c i. refl;
       }
 
-  -- and what is past them is as it was
-  pub copied-past : {b : List ℕ} (g : ℕ → ℕ) (f basins : List ℕ) → n ≤ length f → b ≡ take n f ++ drop n basins
-      → filled g n b ≡ filled g n basins
+  -- labels, as choosing asks for them
+  pub labels-are : {l : List ℕ} (labels : List ℕ) → l ≡ filled (labelOf land) n labels → take n l ≡ tab n (labelOf land)
   unfolding filled
-  copied-past g f basins h e =
-      ap (λ (z : List ℕ). tab n g ++ z) (ap (drop n) e ∙ drop-at (take n f) (drop n basins) n (length-take-le n f h))
-
-  -- first receivers and basins, as the links ask for them
-  pub found : {f b : List ℕ} (firsts basins : List ℕ) → n ≤ length firsts → n ≤ length basins
-      → f ≡ filled (firstReceiver land) n firsts → b ≡ filled (basin land) n basins → Found w heights marks f b
-  unfolding filled
-  found {f} {b} firsts basins h k e g =
-      let l : length f ≡ length firsts = ap length e ∙ filled-length (firstReceiver land) n firsts h in
-      let m : length b ≡ length basins = ap length g ∙ filled-length (basin land) n basins k in
-      record {
-        firsts-fit = omega arith;
-        basins-fit = omega arith;
-        firsts-are = λ c i. ap (λ (z : List ℕ). at z c) e ∙ filled-at (firstReceiver land) n firsts c i;
-        basins-are = ap (take n) g ∙ take-at (tab n (basin land)) (drop n basins) n (length-tab (basin land) n);
-      }
-
-  -- the keys and the answers that choosing gives stand within their lists
-  pub chose-fits : {keys picked keys′ picked′ : List ℕ} {r : ℕ} → Chose land keys picked keys′ picked′ r
-      → (r ≤ length keys′) × (r ≤ length picked′)
-  chose-fits {keys} {picked} {keys′} {picked′} {r} C =
-      let m : List ℕ = map (isChosen land) (C .ordered) in
-      let a : length keys′ ≡ length (C .ordered) + length (drop (length (C .ordered)) keys) =
-      ap length (C .keys-are) ∙ length-append (C .ordered) (drop (length (C .ordered)) keys) in
-      let b : length picked′ ≡ length m + length (drop (length m) picked) = ap length (C .picked-are) ∙ length-append m (drop (length m) picked) in
-      let k : length m ≡ length (C .ordered) = length-map (C .ordered) (isChosen land) in
-      let l = C .long in
-      (omega arith, omega arith)
-
-  -- what choosing leaves is what carving asks for
-  pub answers : {keys picked keys′ picked′ : List ℕ} {r : ℕ} → Chose land keys picked keys′ picked′ r
-      → Answers land (take r keys′) (take r picked′)
-  answers {keys} {picked} {keys′} {picked′} {r} C =
-      let ek : take r keys′ ≡ C .ordered = chose-keys (T .few) C in
-      let ep : take r picked′ ≡ map (isChosen land) (C .ordered) = chose-picked (T .few) C in
-      record {
-        listed = subst (Listed land) (sym ek) (C .listed);
-        chosen-are = λ i h x m e.
-            let h′ : i < length (C .ordered) = rw ek at h in
-            let v : at (take r picked′) i ≡ isChosen land (keyOf land x) =
-            ap (λ (z : List ℕ). at z i) ep ∙ getD-map (isChosen land) (C .ordered) i 0 0 h′ ∙ ap (isChosen land) (ap (λ (z : List ℕ). at z i) (sym ek) ∙ e) in
-            (λ t. is-chosen land (T .few) x m (sym v ∙ t), λ c. v ∙ chosen-is land (T .few) x c);
-      }
+  labels-are labels e = ap (take n) e ∙ take-at (tab n (labelOf land)) (drop n labels) n (length-tab (labelOf land) n)
 
   module _ (O : HasOutlet marks) where
+    pub linkable : {l k : List ℕ} (labels links : List ℕ) → l ≡ filled (labelOf land) n labels → n ≤ length links
+        → k ≡ filled (maskOf w n (joined (firstReceiver land))) n links → Linkable w heights marks (take n l) k
+    linkable {l} {k} labels links e room f =
+        record {
+          tile = T;
+          outlet = O;
+          labels-are = labels-are labels e;
+          room = let s : length k ≡ length links = ap length f ∙ filled-length (maskOf w n (joined (firstReceiver land))) n links room in omega arith;
+          masks = λ c h. ap (λ (z : List ℕ). at z c) f ∙ filled-at (maskOf w n (joined (firstReceiver land))) n links c h;
+        }
+
     abbrev r : List ℕ
     r = receivers land
 
-    network-drains : Drains land r
-    network-drains = receivers-drain land (tile-lawful w heights marks T O) (let f = T .few in omega arith)
-
-    -- the receivers stand in a list that had first receivers before
-    receivers-over : {f s : List ℕ} (firsts : List ℕ) → f ≡ filled (firstReceiver land) n firsts → s ≡ r ++ drop n f
-        → s ≡ r ++ drop n firsts
-    unfolding filled
-    receivers-over firsts e g =
-        g ∙ ap (λ (z : List ℕ). r ++ z) (ap (drop n) e ∙ drop-at (tab n (firstReceiver land)) (drop n firsts) n (length-tab (firstReceiver land) n))
-
-    -- what the walk leaves is what wet asks for
-    pub levelled : {f o s l : List ℕ} (order₀ levels : List ℕ) → n ≤ length levels
-        → Walked w heights marks r (lent order₀ f levels) (lent o s l) → Levelled land r n s l
-    levelled {f} {o} {s} {l} order₀ levels k v =
-        tile-levelled w heights marks r T network-drains s (drop n f) (v .receivers-are) l levels k (v .levels-are)
-
-    -- and what drainage asks for
-    pub ordered : {f o s l : List ℕ} (order₀ levels : List ℕ) (k : ℕ) → k ≡ n
-        → Walked w heights marks r (lent order₀ f levels) (lent o s l) → Ordered land r k o s
-    ordered {f} {o} {s} {l} order₀ levels k z v =
-        subst (λ (m : ℕ). Ordered land r m o s) (sym z)
-        (tile-ordered w heights marks r T network-drains s (drop n f) (v .receivers-are) o (drop n order₀) (v .order-is))
-
-    -- all stages together
-    pub worked : {f b o s l d t : List ℕ} (water : List ℕ) (s₀ : Outputs) (k : ℕ) → k ≡ n
-        → f ≡ filled (firstReceiver land) n (s₀ .receiver-list)
-        → b ≡ filled (basin land) n (s₀ .basin-list)
-        → Walked w heights marks r (lent (s₀ .order-list) f (s₀ .level-list)) (lent o s l)
-        → t ≡ filled (wet land r) n (s₀ .wet-list)
-        → d ≡ filled (drainage land water r) k (s₀ .drainage-list)
-        → Worked land water s₀ (outputs s b o l d t)
-    worked water s₀ k z e g v i j =
+    -- links with a margin: of 4,224 entries the middle ones are the links
+    pub margin : (part links : List ℕ) → length links ≡ 4224 → length part ≡ length (take 4096 (drop 64 links))
+        → Linkage w heights marks part r → Linked w heights marks (take 64 links ++ (part ++ drop 4096 (drop 64 links)))
+    margin part links g h K =
         record {
-          receivers-are = receivers-over (s₀ .receiver-list) e (v .receivers-are);
-          basins-are = g;
-          order-is = v .order-is;
-          levels-are = v .levels-are;
-          drainage-is = j ∙ ap (λ (m : ℕ). filled (drainage land water r) m (s₀ .drainage-list)) z;
-          wet-is = i;
+          inside =
+              subst (λ (l : List ℕ). Linkage w heights marks l r)
+              (sym (drop-at (take 64 links) (part ++ drop 4096 (drop 64 links)) 64 (length-take-le 64 links (omega arith))))
+              (record {
+                tile = K .tile;
+                fits-links =
+                    let s : length (part ++ drop 4096 (drop 64 links)) ≡ length part + length (drop 4096 (drop 64 links)) =
+                    length-append part (drop 4096 (drop 64 links)) in
+                    let t : n ≤ length part = K .fits-links in
+                    omega arith;
+                drains = K .drains;
+                beside = K .beside;
+                masks = λ c i. List·getD-append part (drop 4096 (drop 64 links)) 0 c (let t : n ≤ length part = K .fits-links in omega arith)
+                    ∙ K .masks c i;
+              });
+          wide =
+              let few : n ≤ 4096 = T .few in
+              let x : length (drop 64 links) ≡ length links - 64 = length-drop 64 links in
+              let y : length (drop 4096 (drop 64 links)) ≡ length (drop 64 links) - 4096 = length-drop 4096 (drop 64 links) in
+              let z : length (take 4096 (drop 64 links)) ≡ 4096 = length-take-le 4096 (drop 64 links) (omega arith) in
+              let q : length (take 64 links) ≡ 64 = length-take-le 64 links (omega arith) in
+              let u = length-append (take 64 links) (part ++ drop 4096 (drop 64 links)) in
+              let v = length-append part (drop 4096 (drop 64 links)) in
+              omega arith;
         }
+
+-- after the walk along the links
+module _ (w : ℕ) (heights marks links : List ℕ) (K : Linked w heights marks links) where
+  abbrev tile : Land
+  tile = tileLand w heights marks
+
+  -- what the walk leaves
+  pub walked : {o s l t stack stack′ : List ℕ} (f : Flow)
+      → W.Walked w heights marks (receivers tile) (lent stack (f .order-list) (f .receiver-list) (f .level-list) (f .wet-list)) (lent stack′ o s l t)
+      → Walked tile f (flow s o l t)
+  walked f v =
+      record {
+        receivers-are = v .receivers-are;
+        order-is = v .order-is;
+        levels-are = v .levels-are;
+        wet-is = v .wets-are;
+      }
+
+  -- is what drainage asks for
+  pub ordered : {f′ : Flow} (f : Flow) (k : ℕ) → k ≡ length heights → Walked tile f f′
+      → Ordered tile (receivers tile) k (f′ .order-list) (f′ .receiver-list)
+  ordered {f′} f k z v =
+      subst (λ (m : ℕ). Ordered tile (receivers tile) m (f′ .order-list) (f′ .receiver-list)) (sym z)
+      (tile-ordered w heights marks (receivers tile) (K .inside .tile) (K .inside .drains) (f′ .receiver-list) (drop (length heights) (f .receiver-list))
+      (v .receivers-are) (f′ .order-list) (drop (length heights) (f .order-list)) (v .order-is))
+
+  -- and drainage takes the place of the walk's stack
+  pub drained-over : {d : List ℕ} (water stack drained : List ℕ) (k : ℕ) → k ≡ length heights
+      → drop (length heights) stack ≡ drop (length heights) drained → d ≡ filled (drainage tile water (receivers tile)) k stack
+      → d ≡ filled (drainage tile water (receivers tile)) (length heights) drained
+  drained-over water stack drained k z e j =
+      let f = drainage tile water (receivers tile) in
+      j ∙ ap (λ (m : ℕ). filled f m stack) z ∙ filled-over f (length heights) stack drained e
+
+-- all stages together
+pub worked : {L : Land} {f′ : Flow} {b d : List ℕ} (water basins drained : List ℕ) (f : Flow) → b ≡ filled (basin L) (L .cells) basins
+    → Walked L f f′ → d ≡ filled (drainage L water (receivers L)) (L .cells) drained
+    → Worked L water (outputs (f .receiver-list) basins (f .order-list) (f .level-list) drained (f .wet-list))
+    (outputs (f′ .receiver-list) b (f′ .order-list) (f′ .level-list) d (f′ .wet-list))
+worked water basins drained f g v j =
+    record {
+      receivers-are = v .receivers-are;
+      basins-are = g;
+      order-is = v .order-is;
+      levels-are = v .levels-are;
+      drainage-is = j;
+      wet-is = v .wet-is;
+    }
+
+-- masks that say the first receivers, with the chosen pairs added, are the links of the network
+module _ {w : ℕ} {heights marks labels links : List ℕ} (K : Linkable w heights marks labels links) where
+  abbrev L : Land
+  L = tileLand w heights marks
+
+  pub choosable : (list : List ℕ) → 2 * length heights ≤ length list → Choosable w heights marks labels list
+  choosable list h = record { tile = K .tile; outlet = K .outlet; labels-are = K .labels-are; room = h }
+
+  say : links ≡ filled (maskOf w (length heights) (joined (firstReceiver L))) (length heights) links
+  say = filled-by (maskOf w (length heights) (joined (firstReceiver L))) (length heights) links links (K .room) refl (K .masks) (λ c h. refl)
+
+  module _ (pairs : List ℕ) (C : ChosenPairs w heights marks pairs) where
+    pub addable : Addable w (length heights) (joined (firstReceiver L)) pairs links
+    addable =
+        tile-addable w heights marks (K .tile) pairs (C .chosen) (C .neighbours) (firstReceiver L) (λ c h. refl) links links (K .room) say
+
+    pub linkage : {k : List ℕ} → k ≡ filled (maskOf w (length heights) (withPairs w pairs (joined (firstReceiver L)))) (length heights) links
+        → Linkage w heights marks k (receivers L)
+    linkage {k} e =
+        pairs-linkage w heights marks (K .tile) pairs (C .chosen) (C .neighbours) (firstReceiver L) (λ c h. refl) (K .outlet) links k (K .room) e

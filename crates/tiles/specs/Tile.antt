@@ -17,6 +17,13 @@ pub record Tile (w : ℕ) (heights marks : List ℕ) : Type 0 where
   -- lifted heights
   pub low : (c : ℕ) → at heights c ≤ 16000000
 
+-- n cells in whole rows of w, at most 64 of 64
+pub record Grid (w n : ℕ) : Type 0 where
+  pub wide : 0 < w
+  pub narrow : w ≤ 64
+  pub whole : n % w ≡ 0
+  pub few : n ≤ 4096
+
 -- the land of a tile's lists, with 4 neighbours
 abbrev pub tileLand : (w : ℕ) (heights marks : List ℕ) → Land
 tileLand w heights marks = tile4 w (length heights) heights marks

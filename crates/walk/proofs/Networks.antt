@@ -22,8 +22,8 @@ use Rattle.rules.specs.Land.{Land}
 use Rattle.rules.specs.Links.{Linked}
 use Rattle.rules.specs.Way.{Lawful}
 use Rattle.tiles.proofs.Laws.{tile-lawful}
+use Rattle.tiles.specs.Masks.{maskOf, Masks, receivesEither}
 use Rattle.tiles.specs.Tile.{HasOutlet, Tile, tileLand}
-use Rattle.walk.specs.Masks.{maskOf, Masks, receivesEither}
 use Rattle.walk.specs.Walk.{Linkage}
 
 module _ (L : Land) (W : Lawful L) where

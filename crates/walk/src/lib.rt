@@ -1,262 +1,273 @@
-// Rules 6 to 8 in one walk: from the outlets along the links, with a stack, receivers, order and levels are filled.
-// The links of a cell lead to its receiver and to the cells that receive to it, so at each cell every linked neighbour but the
-// cell's own receiver receives to it. This holds for any receivers that drain: carved ones, or those of another manner.
-ghost use mathlib.Core.List.{List};
+// Rules 6 to 8 and 10 in one walk from the outlets along the links: receivers, order, levels and wetness.
+// The stack's entries hold a cell, its receiver and the mask of the cells that receive to it. At each cell the entries of its four
+// neighbours are written, and the top moves by the bits of the cell's mask: no branch depends on the ground.
+// This holds for any receivers that drain: carved ones, or those of another manner.
+ghost use mathlib.Core.Bool.{cond};
+ghost use mathlib.Core.List.{List, map, _++_};
 ghost use mathlib.Core.Path.{_≡_};
-ghost use Prim.Native.Nat.{max, ℕ, _%_, _+_, _/_, _<_, _≤_};
-ghost use lib.ListN.{length};
-ghost use Rattle.lists.specs.Lists.{at, keep, upto};
-ghost use Rattle.walk.specs.Walk.{Begun, downOf, Fitting, leftOf, lent, Linkage, marked, offered, outletAt};
-ghost use Rattle.walk.specs.Walk.{PushedAbove, PushedOutlets, rightOf, Room, upOf, upstream, Walked};
+ghost use Prim.Native.Nat.{max, ℕ, _%_, _*_, _+_, _-_, _/_, _<_, _≤_};
+ghost use lib.ListN.{drop, length, set};
+ghost use Rattle.lists.specs.Lists.{at, filled, keep, upto};
+ghost use Rattle.walk.specs.Climb.{cellIn, kept, maskIn, ones, outletEntry, pushes, Ready, receiverIn, shifted, wetNow};
+ghost use Rattle.walk.specs.Walk.{lent, Margin, marked, Room, Walked};
 use kinds::Cell;
 use kinds::Place;
+use lists::most_u32;
+use std::num::wrapping_add_u32;
 use tiles::is_outlet;
 
-// The cell that the walk is at, its receiver and its level.
-struct Visited {
-    cell: Cell,
+// One cell more in an entry: below stand the four bits of its mask.
+const CELL: u32 = 16;
+
+// One receiver more: below stand the cell, less than 4096, and the mask.
+const RECEIVER: u32 = 65536;
+
+// One more in both. A neighbour that receives to cell c has c as its receiver, and its own number is counted from c.
+const BOTH: u32 = 65552;
+
+// From c in both to the right neighbour's entry: one cell on, less the bit 2 that its links have for the way back.
+const RIGHT: u32 = 14;
+
+// To the left neighbour's: one cell back, less the bit 4, and 2 ^ 32 more, which the sum that wraps takes away.
+const LEFT: u32 = 4_294_967_276;
+
+// The bit that the links of the neighbour below have for the way back.
+const BACK_UP: u32 = 1;
+
+// 2 ^ 32 less the bit 8, which the links of the neighbour above have for the way back.
+const LESS_BACK_DOWN: u32 = 4_294_967_288;
+
+// So many entries stand before and after the links, so that every cell has four places beside it.
+const MARGIN: usize = 64;
+
+// A stack's entry: a cell, its receiver and the mask of the cells that receive to it, in one number.
+struct Entry(u32);
+
+impl Entry {
+    fn mask(self) -> u8
+        ensures { λ m. ⌜ (m ≡ maskIn (self .0)) × (m < 16) ⌝ }
+    {
+        (self.0 % CELL) as u8
+    }
+
+    fn cell(self) -> Cell
+        ensures { λ c. ⌜ (c .0 ≡ cellIn (self .0)) × (c .0 < 4096) ⌝ }
+    {
+        Cell((self.0 / CELL % 4096) as u16)
+    }
+
+    fn receiver(self) -> Cell
+        ensures { λ c. ⌜ c .0 ≡ receiverIn (self .0) ⌝ }
+    {
+        Cell((self.0 / RECEIVER) as u16)
+    }
+}
+
+// A mask of links as a part of an entry.
+fn wide(x: u8) -> u32
+    ensures { λ r. ⌜ (r ≡ x) × (r < 256) ⌝ }
+{
+    x as u32
+}
+
+// 1 where a test holds.
+fn one_if(holds: bool) -> u8
+    ensures { λ r. ⌜ (r ≡ cond holds 1 0) × (r ≤ 1) ⌝ }
+{
+    if holds { 1 } else { 0 }
+}
+
+// A neighbour's entry from the visited cell in both parts, what lies between, and the neighbour's links. The sums may wrap: a
+// difference below 0 is 2 ^ 32 more, and where there is no neighbour that receives to the cell, the entry isn't kept.
+fn beside(own: u32, between: u32, links: u8) -> Entry
+    ensures { λ e. ⌜ e .0 ≡ shifted own between links ⌝ }
+{
+    Entry(wrapping_add_u32(wrapping_add_u32(own, between), wide(links)))
+}
+
+// Writes an entry above the top, and keeps it where the bit is 1: what isn't kept is overwritten by the next.
+fn push(stack: &mut [u32], top: Place, entry: Entry, bit: u8) -> Place
+    requires { ⌜ (0 < top .0) × (top .0 ≤ length (now stack)) × (bit ≤ 1) ⌝ }
+    ensures { λ t. ⌜
+        (t .0 + bit ≡ top .0) × (drop (t .0) (now (stack .exit)) ≡ kept bit (entry .0) ++ drop (top .0) (now (stack .entry)))
+        ⌝ }
+{
+    stack[top.0 as usize - 1] = entry.0;
+    let new_top = top.0 - bit as u16;
+    Place(new_top)
+}
+
+// Pushes the entries of the cells that receive to c, the greatest number first, in the place of c's own.
+fn visit(w: usize, links: &[u8], stack: &mut [u32], top: Place, c: Cell, mask: u8) -> Place
+    requires { ⌜ (0 < w) × (w ≤ 64) × (c .0 < 4096) × (c .0 + 64 + w < length (now links)) × (mask < 16) ⌝ }
+    requires { ⌜ (ones mask ≤ top .0) × (top .0 < length (now stack)) × (top .0 < 4096) ⌝ }
+    ensures { λ t. ⌜
+        (t .0 + ones mask ≡ top .0 + 1)
+        × (drop (t .0) (now (stack .exit)) ≡ pushes w (now (links .entry)) (c .0) mask ++ drop (top .0 + 1) (now (stack .entry)))
+        ⌝ }
+{
+    let here = c.0 as usize + MARGIN;
+    let own = BOTH * (c.0 as u32);
+    let row = CELL * (w as u32);
+    let down = beside(own, row - BACK_UP, links[here + w]);
+    let right = beside(own, RIGHT, links[here + 1]);
+    let left = beside(own, LEFT, links[here - 1]);
+    let up = beside(own, LESS_BACK_DOWN - row, links[here - w]);
+    let top1 = push(stack, Place(top.0 + 1), down, mask / 8 % 2);
+    let top2 = push(stack, top1, right, mask / 4 % 2);
+    let top3 = push(stack, top2, left, mask / 2 % 2);
+    push(stack, top3, up, mask % 2)
+}
+
+// 1 where a cell is wet: it is no outlet, its own receiver, and its receiver's level is no lower than its height.
+// Both tests are made before either is looked at.
+fn wet_mark(c: Cell, receiver: Cell, height: u32, below: u32) -> u8
+    ensures { λ r. ⌜ r ≡ wetNow (c .0) (receiver .0) height below ⌝ }
+{
+    let dry = one_if(below < height);
+    let out = one_if(receiver.0 == c.0);
+    one_if(dry + out == 0)
+}
+
+// Notes a cell's receiver, level and wetness, from its receiver's level.
+fn settle(
+    heights: &[u32],
+    receivers: &mut [u16],
+    levels: &mut [u32],
+    wets: &mut [u8],
+    c: Cell,
     receiver: Cell,
-    level: u32,
-}
-
-// The neighbour above c where the mask links it, otherwise c itself.
-fn linked_up(mask: u8, w: usize, c: Cell) -> Cell
-    requires { ⌜ (mask % 2 ≡ 1 → w ≤ c .0) ⌝ }
-    ensures { λ d. ⌜ d .0 ≡ upOf mask w (c .0) ⌝ }
-{
-    if mask % 2 == 1 {
-        Cell((c.0 as usize - w) as u16)
-    } else {
-        c
-    }
-}
-
-// The neighbour to the left of c where the mask links it, otherwise c itself.
-fn linked_left(mask: u8, c: Cell) -> Cell
-    requires { ⌜ (mask / 2 % 2 ≡ 1 → 1 ≤ c .0) ⌝ }
-    ensures { λ d. ⌜ d .0 ≡ leftOf mask (c .0) ⌝ }
-{
-    if mask / 2 % 2 == 1 { Cell(c.0 - 1) } else { c }
-}
-
-// The neighbour to the right of c where the mask links it, otherwise c itself.
-fn linked_right(mask: u8, c: Cell) -> Cell
-    requires { ⌜ c .0 < 4096 ⌝ }
-    ensures { λ d. ⌜ d .0 ≡ rightOf mask (c .0) ⌝ }
-{
-    if mask / 4 % 2 == 1 { Cell(c.0 + 1) } else { c }
-}
-
-// The neighbour below c where the mask links it, otherwise c itself.
-fn linked_down(mask: u8, w: usize, c: Cell) -> Cell
-    requires { ⌜ (mask / 8 % 2 ≡ 1 → c .0 + w < 4096) ⌝ }
-    ensures { λ d. ⌜ d .0 ≡ downOf mask w (c .0) ⌝ }
-{
-    if mask / 8 % 2 == 1 {
-        Cell((c.0 as usize + w) as u16)
-    } else {
-        c
-    }
-}
-
-// The greater of two heights.
-fn greater(a: u32, b: u32) -> u32
-    ensures { λ r. ⌜ r ≡ max a b ⌝ }
-{
-    if a < b { b } else { a }
-}
-
-// Pushes d with the visited cell as its receiver, unless it is that cell itself or that cell's receiver.
-fn push(
-    heights: &[u32],
-    order: &mut [u16],
-    receivers: &mut [u16],
-    levels: &mut [u32],
-    top: Place,
-    from: Visited,
-    d: Cell,
-) -> Place
-    requires { ⌜ (length (offered (from .cell .0) (from .receiver .0) (d .0)) ≤ top .0) × (top .0 ≤ length (now order)) ⌝ }
-    requires { ⌜ (d .0 < length (now heights)) × (d .0 < length (now receivers)) × (d .0 < length (now levels)) ⌝ }
-    ensures { λ t. ⌜
-        PushedAbove (now (heights .entry)) (from .cell .0) (from .level) (top .0) (offered (from .cell .0) (from .receiver .0) (d .0))
-        (lent (now (order .entry)) (now (receivers .entry)) (now (levels .entry)))
-        (lent (now (order .exit)) (now (receivers .exit)) (now (levels .exit))) (t .0)
-        ⌝ }
-{
-    if d.0 == from.cell.0 {
-        return top;
-    }
-    if d.0 == from.receiver.0 {
-        return top;
-    }
-    let place = Place(top.0 - 1);
-    let height = heights[d.0 as usize];
-    order[place.0 as usize] = d.0;
-    receivers[d.0 as usize] = from.cell.0;
-    levels[d.0 as usize] = greater(height, from.level);
-    place
-}
-
-// Pushes the linked neighbours of c but its receiver, the greatest number first.
-fn visit(
-    w: usize,
-    heights: &[u32],
-    links: &[u8],
-    order: &mut [u16],
-    receivers: &mut [u16],
-    levels: &mut [u32],
-    top: Place,
-    c: Cell,
-) -> Place
-    requires { ⌜ Fitting (at (now links) (c .0)) w (c .0) (length (now heights)) × (length (now heights) ≤ length (now links)) ⌝ }
-    requires { ⌜ (length (now heights) ≤ length (now receivers)) × (length (now heights) ≤ length (now levels)) ⌝ }
+)
     requires { ⌜
-        (length (upstream (at (now links) (c .0)) w (c .0) (at (now receivers) (c .0))) ≤ top .0) × (top .0 ≤ length (now order))
+        (c .0 < length (now heights)) × (c .0 < length (now receivers)) × (c .0 < length (now levels)) × (c .0 < length (now wets))
+        × (receiver .0 < length (now levels))
         ⌝ }
-    ensures { λ t. ⌜
-        PushedAbove (now (heights .entry)) (c .0) (at (now (levels .entry)) (c .0)) (top .0)
-        (upstream (at (now (links .entry)) (c .0)) w (c .0) (at (now (receivers .entry)) (c .0)))
-        (lent (now (order .entry)) (now (receivers .entry)) (now (levels .entry)))
-        (lent (now (order .exit)) (now (receivers .exit)) (now (levels .exit))) (t .0)
-        ⌝ }
-{
-    let mask = links[c.0 as usize];
-    let from = Visited {
-        cell: c,
-        receiver: Cell(receivers[c.0 as usize]),
-        level: levels[c.0 as usize],
-    };
-    let up = linked_up(mask, w, c);
-    let left = linked_left(mask, c);
-    let right = linked_right(mask, c);
-    let down = linked_down(mask, w, c);
-    let top1 = push(heights, order, receivers, levels, top, from, down);
-    let top2 = push(heights, order, receivers, levels, top1, from, right);
-    let top3 = push(heights, order, receivers, levels, top2, from, left);
-    push(heights, order, receivers, levels, top3, from, up)
-}
-
-// Pushes cell c where it is an outlet: its own receiver, its level its height.
-fn push_outlet(
-    heights: &[u32],
-    marks: &[u8],
-    order: &mut [u16],
-    receivers: &mut [u16],
-    levels: &mut [u32],
-    top: Place,
-    c: Cell,
-) -> Place
-    requires { ⌜ (length (outletAt (now marks) (c .0)) ≤ top .0) × (top .0 ≤ length (now order)) × (c .0 < length (now marks)) ⌝ }
-    requires { ⌜ (c .0 < length (now heights)) × (c .0 < length (now receivers)) × (c .0 < length (now levels)) ⌝ }
-    ensures { λ t. ⌜
-        PushedOutlets (now (heights .entry)) (top .0) (outletAt (now (marks .entry)) (c .0))
-        (lent (now (order .entry)) (now (receivers .entry)) (now (levels .entry)))
-        (lent (now (order .exit)) (now (receivers .exit)) (now (levels .exit))) (t .0)
+    ensures { λ _. ⌜
+        (now (receivers .exit) ≡ set (now (receivers .entry)) (c .0) (receiver .0))
+        × (now (levels .exit)
+        ≡ set (now (levels .entry)) (c .0) (max (at (now (heights .entry)) (c .0)) (at (now (levels .entry)) (receiver .0))))
+        × (now (wets .exit)
+        ≡ set (now (wets .entry)) (c .0)
+        (wetNow (c .0) (receiver .0) (at (now (heights .entry)) (c .0)) (at (now (levels .entry)) (receiver .0))))
         ⌝ }
 {
-    if !is_outlet(marks, c) {
-        return top;
-    }
-    let place = Place(top.0 - 1);
-    order[place.0 as usize] = c.0;
-    receivers[c.0 as usize] = c.0;
-    levels[c.0 as usize] = heights[c.0 as usize];
-    place
+    let below = levels[receiver.0 as usize];
+    let height = heights[c.0 as usize];
+    receivers[c.0 as usize] = receiver.0;
+    levels[c.0 as usize] = most_u32(height, below);
+    wets[c.0 as usize] = wet_mark(c, receiver, height, below);
 }
 
-// Pushes the outlets, the greatest number first, from the last cell's place of the order down.
-fn push_outlets(
-    heights: &[u32],
-    marks: &[u8],
-    order: &mut [u16],
-    receivers: &mut [u16],
-    levels: &mut [u32],
-) -> Place
-    requires { ⌜ (length (now marks) ≡ length (now heights)) × (length (now heights) ≤ 4096) ⌝ }
-    requires { ⌜ Room (length (now heights)) (lent (now order) (now receivers) (now levels)) ⌝ }
-    ensures { λ t. ⌜
-        PushedOutlets (now (heights .entry)) (length (now (heights .entry)))
-        (keep (marked (now (marks .entry))) (upto (length (now (heights .entry)))))
-        (lent (now (order .entry)) (now (receivers .entry)) (now (levels .entry)))
-        (lent (now (order .exit)) (now (receivers .exit)) (now (levels .exit))) (t .0)
-        ⌝ }
-{
-    let mut c = heights.len();
-    let mut top = Place(heights.len() as u16);
-    while 0 < c {
-        c -= 1;
-        top = push_outlet(
-            heights,
-            marks,
-            order,
-            receivers,
-            levels,
-            top,
-            Cell(c as u16),
-        );
-    }
-    top
-}
-
-// Takes the top cell off the stack, writes it next in the order and pushes what receives to it, until the stack is empty.
+// Takes the top entry off the stack, writes its cell next in the order, pushes what receives to it and settles it, until the stack
+// is empty.
 fn climb(
     w: usize,
     heights: &[u32],
     links: &[u8],
+    stack: &mut [u32],
     order: &mut [u16],
     receivers: &mut [u16],
     levels: &mut [u32],
+    wets: &mut [u8],
     outlets: Place,
 )
     requires { ⌜
-        ((marks : List ℕ) × (r : List ℕ) × Linkage w (now heights) marks (now links) r
-        × Begun w (now heights) marks (lent (now order) (now receivers) (now levels)) (outlets .0))
+        ((marks : List ℕ) × (r : List ℕ) × Margin w (now heights) marks (now links) r
+        × Ready w (now heights) marks r (lent (now stack) (now order) (now receivers) (now levels) (now wets)) (outlets .0))
         ⌝ }
+    requires { ⌜ Room (length (now heights)) (lent (now stack) (now order) (now receivers) (now levels) (now wets)) ⌝ }
     ensures { λ _. ⌜
-        ((marks : List ℕ) → (r : List ℕ) → Linkage w (now (heights .entry)) marks (now (links .entry)) r
-        → Begun w (now (heights .entry)) marks (lent (now (order .entry)) (now (receivers .entry)) (now (levels .entry))) (outlets .0)
-        → Walked w (now (heights .entry)) marks r (lent (now (order .entry)) (now (receivers .entry)) (now (levels .entry)))
-        (lent (now (order .exit)) (now (receivers .exit)) (now (levels .exit))))
+        ((marks : List ℕ) → (r : List ℕ) → Margin w (now (heights .entry)) marks (now (links .entry)) r
+        → Ready w (now (heights .entry)) marks r
+        (lent (now (stack .entry)) (now (order .entry)) (now (receivers .entry)) (now (levels .entry)) (now (wets .entry))) (outlets .0)
+        → Walked w (now (heights .entry)) marks r
+        (lent (now (stack .entry)) (now (order .entry)) (now (receivers .entry)) (now (levels .entry)) (now (wets .entry)))
+        (lent (now (stack .exit)) (now (order .exit)) (now (receivers .exit)) (now (levels .exit)) (now (wets .exit))))
         ⌝ }
 {
-    let mut written = Place(0);
+    // Between turns the order begins with the cells written, and from the top on the stack holds the entries of the pending cells.
+    // The cells written, then all that lies above each pending cell, are rule 8's order. A pending cell is an outlet, or its receiver
+    // is written. What is written is settled, and an outlet's level is its height all along.
     let mut top = outlets;
+    let mut written = Place(0);
     while (top.0 as usize) < heights.len() {
-        let c = Cell(order[top.0 as usize]);
+        let entry = Entry(stack[top.0 as usize]);
+        let c = entry.cell();
         order[written.0 as usize] = c.0;
+        top = visit(w, links, stack, top, c, entry.mask());
+        settle(heights, receivers, levels, wets, c, entry.receiver());
         written = Place(written.0 + 1);
-        top = visit(
-            w,
-            heights,
-            links,
-            order,
-            receivers,
-            levels,
-            Place(top.0 + 1),
-            c,
-        );
     }
 }
 
-// Receivers, order and levels from the link masks.
+// Pushes the outlets' entries, the greatest number first, from the last cell's place of the stack down. All links of an outlet are
+// with cells that receive to it.
+fn push_outlets(marks: &[u8], links: &[u8], stack: &mut [u32]) -> Place
+    requires { ⌜
+        (length (now marks) ≤ 4096) × (length (now marks) + 128 ≤ length (now links)) × (length (now marks) ≤ length (now stack))
+        ⌝ }
+    ensures { λ t. ⌜
+        (t .0 + length (keep (marked (now (marks .entry))) (upto (length (now (marks .entry))))) ≡ length (now (marks .entry)))
+        × (drop (t .0) (now (stack .exit))
+        ≡ map (outletEntry (now (links .entry))) (keep (marked (now (marks .entry))) (upto (length (now (marks .entry)))))
+        ++ drop (length (now (marks .entry))) (now (stack .entry)))
+        ⌝ }
+{
+    // Between turns the entries of the outlets from cell c on stand at the top.
+    let mut c = marks.len();
+    let mut top = Place(marks.len() as u16);
+    while 0 < c {
+        c -= 1;
+        let entry = Entry(BOTH * (c as u32) + wide(links[c + MARGIN]));
+        top = push(stack, top, entry, one_if(is_outlet(marks, Cell(c as u16))));
+    }
+    top
+}
+
+// Each cell's height in the place of its level: what an outlet's own entry finds at its receiver.
+fn note_heights(heights: &[u32], levels: &mut [u32])
+    requires { ⌜ (length (now heights) ≤ length (now levels)) × (length (now heights) ≤ 4096) ⌝ }
+    ensures { λ _. ⌜ now (levels .exit) ≡ filled (at (now (heights .entry))) (length (now (heights .entry))) (now (levels .entry)) ⌝ }
+{
+    let mut c = 0;
+    while c < heights.len() {
+        levels[c] = heights[c];
+        c += 1;
+    }
+}
+
+// Receivers, order, levels and wetness from the link masks. The stack is work space: what is past the cells' places stays.
 pub fn walk_links(
     w: usize,
     heights: &[u32],
     marks: &[u8],
     links: &[u8],
+    stack: &mut [u32],
     order: &mut [u16],
     receivers: &mut [u16],
     levels: &mut [u32],
+    wets: &mut [u8],
 )
-    requires { ⌜ ((r : List ℕ) × Linkage w (now heights) (now marks) (now links) r) ⌝ }
-    requires { ⌜ Room (length (now heights)) (lent (now order) (now receivers) (now levels)) ⌝ }
+    requires { ⌜ ((r : List ℕ) × Margin w (now heights) (now marks) (now links) r) ⌝ }
+    requires { ⌜ Room (length (now heights)) (lent (now stack) (now order) (now receivers) (now levels) (now wets)) ⌝ }
     ensures { λ _. ⌜
-        ((r : List ℕ) → Linkage w (now (heights .entry)) (now (marks .entry)) (now (links .entry)) r
-        → Walked w (now (heights .entry)) (now (marks .entry)) r (lent (now (order .entry)) (now (receivers .entry)) (now (levels .entry)))
-        (lent (now (order .exit)) (now (receivers .exit)) (now (levels .exit))))
+        ((r : List ℕ) → Margin w (now (heights .entry)) (now (marks .entry)) (now (links .entry)) r
+        → Walked w (now (heights .entry)) (now (marks .entry)) r
+        (lent (now (stack .entry)) (now (order .entry)) (now (receivers .entry)) (now (levels .entry)) (now (wets .entry)))
+        (lent (now (stack .exit)) (now (order .exit)) (now (receivers .exit)) (now (levels .exit)) (now (wets .exit))))
         ⌝ }
 {
-    let top = push_outlets(heights, marks, order, receivers, levels);
-    climb(w, heights, links, order, receivers, levels, top);
+    note_heights(heights, levels);
+    let top = push_outlets(marks, links, stack);
+    climb(
+        w,
+        heights,
+        links,
+        stack,
+        order,
+        receivers,
+        levels,
+        wets,
+        top,
+    );
 }

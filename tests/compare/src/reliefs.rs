@@ -25,7 +25,7 @@ pub const ALL: [Relief; 13] = [
 ];
 
 /// A height for each cell, out of its row and column.
-fn each_cell(size: Size, mut height: impl FnMut(i32, i32) -> i32) -> Vec<i32> {
+pub fn each_cell(size: Size, mut height: impl FnMut(i32, i32) -> i32) -> Vec<i32> {
     let mut heights = Vec::with_capacity(size.cells());
     for row in 0..size.height {
         for column in 0..size.width {

@@ -1,35 +1,47 @@
 -- `basins::basin_numbers` meets its contract.
 -- Counted, led to the singular cells, looked up: each cell gets the count at its singular cell, which is the number of its basin.
 -- Assumes nothing.
+use mathlib.Core.List.{List}
 use mathlib.Core.Path.{_≡_}
-use Prim.Native.Nat.{_≤_}
+use Prim.Native.Nat.{ℕ, _≤_}
 use native.Mathlib.Omega.{arith}
-use lib.ListN.{length}
+use lib.ListN.{length, replicate}
 use borrow.Author.Needs.{needs}
-use Rattle.basins.proofs.Numbered.{numbered, singular-within}
+use Rattle.basins.proofs.Numbered.{labelled, numbered, singular-within}
 use Rattle.basins.proofs.basin_numbers.Statement.{statement}
 use Rattle.basins.proofs.basin_numbers.Tie as tie
 
+slice-aggregate-number-basins : tie.Need-slice-aggregate-number-basins
+slice-aggregate-number-basins c = search needs
+
 number-basins-requires : tie.Need-number-basins-requires
-number-basins-requires c κs = search needs
+number-basins-requires c κs =
+    let st = c .before .before .before .before .before in
+    let F = st .pre .0 .1 in
+    (F .room, F .few, F .few)
 
 singular-cells-requires : tie.Need-singular-cells-requires
 singular-cells-requires c κs = search needs
 
+slice-aggregate-look-up : tie.Need-slice-aggregate-look-up
+slice-aggregate-look-up c = search needs
+
 look-up-requires : tie.Need-look-up-requires
 look-up-requires c κs =
-    let at-cells = c .before .before .before .before in
-    let at-counts = at-cells .before .before .before .before in
-    let st = at-counts .before .before .before .before .before in
+    let at-cells = c .before .before .before .before .before in
+    let at-counts = at-cells .before .before .before in
+    let st = at-counts .before .before .before .before .before .before in
     let counts = at-counts .number-basins in
     let cells = at-cells .singular-cells in
     let L = st .pre .0 .0 in
     let F = st .pre .0 .1 in
-    let a : length (counts .last .1 .1 .0) ≡ length (st .args .work .now) = counts .kept .1 .1 .0 in
+    let a : length (counts .last .1 .1 .0) ≡ 4096 = counts .kept .1 .1 .0 in
     let b : length (cells .last .0) ≡ length (st .args .entries .now) = cells .kept .0 in
-    let d : st .args .n ≤ length (st .args .work .now) = st .pre .1 in
-    let e : st .args .n ≤ length (st .args .entries .now) = F .room in
-    (omega arith, omega arith, singular-within L (st .args .n) (st .args .entries .now) F (cells .last .0) (cells .ensures L F))
+    let d : st .args .n ≤ 4096 = F .few in
+    let e : st .args .n ≤ length (st .args .entries .now) = F .room in (
+      (omega arith, omega arith, singular-within L (st .args .n) (st .args .entries .now) F (cells .last .0) (cells .ensures L F)),
+      (st .pre .1 .0, st .pre .1 .1, d),
+    )
 
 same-length : tie.Need-same-length
 same-length c = search needs
@@ -39,24 +51,30 @@ same-length-2 c = search needs
 
 returns : tie.Need-returns
 returns c =
-    let at-found = c .before .before in
-    let at-cells = at-found .before .before .before .before .before in
-    let at-counts = at-cells .before .before .before .before in
-    let st = at-counts .before .before .before .before .before in
+    let at-found = c .before .before .before .before in
+    let at-cells = at-found .before .before .before .before .before .before in
+    let at-counts = at-cells .before .before .before in
+    let st = at-counts .before .before .before .before .before .before in
+    let n = st .args .n in
+    let entries = st .args .entries .now in
+    let zeros : List ℕ = replicate 4096 0 in
     let counts = at-counts .number-basins in
     let cells = at-cells .singular-cells in
     let found = at-found .look-up in (
-      λ L F. numbered L (st .args .n) (st .args .entries .now) F (counts .last .1 .1 .0) (cells .last .0) (found .last .1 .1 .0)
-          (st .args .work .now) (counts .ensures) (cells .ensures L F) (found .ensures),
-      counts .ensures,
+      λ L F. numbered L n entries F (counts .last .1 .1 .0) (cells .last .0) (found .last .1 .1 .1 .0) zeros (counts .ensures) (cells .ensures L F)
+          (found .ensures .0),
+      λ L F M. labelled L n entries F (st .args .marks .now) (counts .last .1 .1 .0) (cells .last .0) (found .last .1 .1 .1 .1 .0) zeros
+          (st .args .labels .now) M (counts .ensures) (cells .ensures L F) (found .ensures .1),
     )
 
 pub basin-numbers-spec : {M : Type 1} → statement M
 basin-numbers-spec =
     tie.close
     (tie.spec
+    slice-aggregate-number-basins
     number-basins-requires
     singular-cells-requires
+    slice-aggregate-look-up
     look-up-requires
     same-length
     same-length-2

@@ -1,4 +1,5 @@
--- `basins::look_up` meets its contract. After c turns the first c entries are looked up, and the others are as they were.
+-- `basins::look_up` meets its contract.
+-- After c turns both lists are filled up to c; the entry at c has not changed yet, so that the cell it names is still there to look up.
 -- Assumes nothing.
 use mathlib.Core.List.{List}
 use mathlib.Core.Path.{ap, refl, sym, _∙_, _≡_}
@@ -6,34 +7,51 @@ use Prim.Native.Nat.{ℕ, _-_, _<_, _≤_}
 use native.Mathlib.Omega.{arith}
 use lib.ListN.{length, length-set, set}
 use borrow.Author.Needs.{needs}
+use Rattle.basins.specs.Labels.{labelBy}
 use Rattle.lists.proofs.Entries.{filled-past}
 use Rattle.lists.proofs.Fill.{filled-next, filled-none}
 use Rattle.lists.specs.Lists.{at, filled}
 use Rattle.basins.proofs.look_up.Statement.{statement}
 use Rattle.basins.proofs.look_up.Tie as tie
 
+-- what each cell is to get: the number and the label of the cell that its entry names
+abbrev numberOf : (numbers entries : List ℕ) → ℕ → ℕ
+numberOf numbers entries d = at numbers (at entries d)
+
+abbrev labelFrom : (n : ℕ) (numbers marks entries : List ℕ) → ℕ → ℕ
+labelFrom n numbers marks entries d = labelBy n (at marks (at entries d)) (at numbers (at entries d))
+
 abbrev Inv-loop : tie.InvT-loop
-Inv-loop numbers n entries₀ c₀ entries c =
-    (c ≤ n) × (length entries ≡ length entries₀) × (entries ≡ filled (λ d. at numbers (at entries₀ d)) c entries₀)
+Inv-loop numbers marks n entries₀ labels₀ all c₀ entries labels c =
+    (c ≤ n)
+    × (length entries ≡ length entries₀)
+    × (length labels ≡ length labels₀)
+    × (entries ≡ filled (numberOf numbers entries₀) c entries₀)
+    × (labels ≡ filled (labelFrom n numbers marks entries₀) c labels₀)
 
 abbrev μ-loop : tie.MeasureT-loop
-μ-loop numbers n entries₀ c₀ entries c = n - c
+μ-loop numbers marks n entries₀ labels₀ all c₀ entries labels c = n - c
+
+cast-all : tie.Need-cast-all Inv-loop μ-loop
+cast-all c = search needs
 
 loop-holds : tie.Need-loop-holds Inv-loop μ-loop
-loop-holds c = (omega arith, refl, sym (filled-none _ _))
+loop-holds c = (omega arith, refl, refl, sym (filled-none _ _), sym (filled-none _ _))
+
+abbrev start : tie.In-loop Inv-loop μ-loop → tie.Start Inv-loop μ-loop
+start c = c .before .before .before .before .before .before
 
 -- the entry at this turn's cell has not changed, and is a cell
 as-before : (c : tie.In-loop Inv-loop μ-loop)
-    → at (c .before .loop .entries) (c .before .loop .c) ≡ at (c .before .before .args .entries .now) (c .before .loop .c)
+    → at (c .before .loop .entries) (c .before .loop .c) ≡ at (start c .args .entries .now) (c .before .loop .c)
 as-before c =
     let lp = c .before in
-    let st = lp .before in
-    let f : ℕ → ℕ = λ d. at (st .args .numbers .now) (at (st .args .entries .now) d) in
-    ap (λ (l : List ℕ). at l (lp .loop .c)) (lp .loop .inv .2) ∙ filled-past f (lp .loop .c) (st .args .entries .now) (lp .loop .c)
-    (omega arith)
+    let a = start c .args in
+    ap (λ (l : List ℕ). at l (lp .loop .c)) (lp .loop .inv .3)
+    ∙ filled-past (numberOf (a .numbers .now) (a .entries .now)) (lp .loop .c) (a .entries .now) (lp .loop .c) (omega arith)
 
-in-tile : (c : tie.In-loop Inv-loop μ-loop) → at (c .before .loop .entries) (c .before .loop .c) < c .before .before .args .n
-in-tile c = rw (as-before c) (c .before .before .pre .2 (c .before .loop .c) (c .loop-test .taken))
+in-tile : (c : tie.In-loop Inv-loop μ-loop) → at (c .before .loop .entries) (c .before .loop .c) < start c .args .n
+in-tile c = rw (as-before c) (start c .pre .0 .2 (c .before .loop .c) (c .loop-test .taken))
 
 mul-d : tie.Need-mul-d Inv-loop μ-loop
 mul-d c = search needs
@@ -43,30 +61,50 @@ slice-read-d c = search needs
 
 cast-d : tie.Need-cast-d Inv-loop μ-loop
 cast-d c =
-    let lp = c .before .before in
-    let st = lp .before in
-    let y : at (lp .loop .entries) (lp .loop .c) < st .args .n = in-tile (c .before) in
-    omega arith
+    let test = c .before in
+    let lp = test .before in
+    let st = lp .before .before .before .before .before in
+    let y : at (lp .loop .entries) (lp .loop .c) < st .args .n = in-tile test in
+    omega (arith, y, st .pre .0, st .pre .1)
+
+mul-number : tie.Need-mul-number Inv-loop μ-loop
+mul-number c =
+    let test = c .before in
+    let lp = test .before in
+    let st = lp .before .before .before .before .before in
+    let y : at (lp .loop .entries) (lp .loop .c) < st .args .n = in-tile test in
+    omega (arith, y, st .pre .0, st .pre .1)
+
+shared-slice-read-number : tie.Need-shared-slice-read-number Inv-loop μ-loop
+shared-slice-read-number c =
+    let test = c .before .before in
+    let lp = test .before in
+    let st = lp .before .before .before .before .before in
+    let y : at (lp .loop .entries) (lp .loop .c) < st .args .n = in-tile test in
+    omega (arith, y, st .pre .0, st .pre .1)
 
 mul-entries : tie.Need-mul-entries Inv-loop μ-loop
-mul-entries c =
-    let lp = c .before .before in
-    let st = lp .before in
-    let y : at (lp .loop .entries) (lp .loop .c) < st .args .n = in-tile (c .before) in
-    omega arith
-
-shared-slice-read-entries : tie.Need-shared-slice-read-entries Inv-loop μ-loop
-shared-slice-read-entries c =
-    let lp = c .before .before .before in
-    let st = lp .before in
-    let y : at (lp .loop .entries) (lp .loop .c) < st .args .n = in-tile (c .before .before) in
-    omega arith
-
-mul-entries-2 : tie.Need-mul-entries-2 Inv-loop μ-loop
-mul-entries-2 c = search needs
+mul-entries c = search needs
 
 slice-write-entries : tie.Need-slice-write-entries Inv-loop μ-loop
 slice-write-entries c = search needs
+
+shared-slice-read-label-of : tie.Need-shared-slice-read-label-of Inv-loop μ-loop
+shared-slice-read-label-of c =
+    let test = c .before .before .before in
+    let lp = test .before in
+    let st = lp .before .before .before .before .before in
+    let y : at (lp .loop .entries) (lp .loop .c) < st .args .n = in-tile test in
+    omega (arith, y, st .pre .0, st .pre .1)
+
+label-of-requires : tie.Need-label-of-requires Inv-loop μ-loop
+label-of-requires c κs = search needs
+
+mul-labels : tie.Need-mul-labels Inv-loop μ-loop
+mul-labels c = search needs
+
+slice-write-labels : tie.Need-slice-write-labels Inv-loop μ-loop
+slice-write-labels c = search needs
 
 add-c : tie.Need-add-c Inv-loop μ-loop
 add-c c = search needs
@@ -76,25 +114,39 @@ loop-less c = search needs
 
 loop-again : tie.Need-loop-again Inv-loop μ-loop
 loop-again c =
-    let lp = c .before .before .before in
-    let st = lp .before in
-    let f : ℕ → ℕ = λ d. at (st .args .numbers .now) (at (st .args .entries .now) d) in (
+    let test = c .before .before .before .before in
+    let lp = test .before in
+    let st = lp .before .before .before .before .before in
+    let same : at (lp .loop .entries) (lp .loop .c) ≡ at (st .args .entries .now) (lp .loop .c) = as-before test in
+    let f = numberOf (st .args .numbers .now) (st .args .entries .now) in
+    let g = labelFrom (st .args .n) (st .args .numbers .now) (st .args .marks .now) (st .args .entries .now) in (
       omega arith,
       simp length-set (lp .loop .inv .1),
-      ap (λ (d : ℕ). set (lp .loop .entries) (lp .loop .c) (at (st .args .numbers .now) d)) (as-before (c .before .before))
-          ∙ rw (lp .loop .inv .2) (filled-next f (lp .loop .c) (st .args .entries .now) (omega arith)),
+      simp length-set (lp .loop .inv .2),
+      ap (λ (d : ℕ). set (lp .loop .entries) (lp .loop .c) (at (st .args .numbers .now) d)) same
+          ∙ rw (lp .loop .inv .3) (filled-next f (lp .loop .c) (st .args .entries .now) (omega arith)),
+      ap (set (lp .loop .labels) (lp .loop .c))
+          (c .label-of .ensures
+          ∙ ap (λ (d : ℕ). labelBy (st .args .n) (at (st .args .marks .now) d) (at (st .args .numbers .now) d)) same)
+          ∙ rw (lp .loop .inv .4) (filled-next g (lp .loop .c) (st .args .labels .now) (omega (arith, st .pre .1))),
     )
 
 same-length : tie.Need-same-length Inv-loop μ-loop
 same-length c = c .before .loop .inv .1
 
+same-length-2 : tie.Need-same-length-2 Inv-loop μ-loop
+same-length-2 c = c .before .loop .inv .2
+
 returns : tie.Need-returns Inv-loop μ-loop
 returns c =
     let lp = c .before in
-    let st = lp .before in
-    let f : ℕ → ℕ = λ d. at (st .args .numbers .now) (at (st .args .entries .now) d) in
-    let e : lp .loop .c ≡ st .args .n = omega arith in
-    lp .loop .inv .2 ∙ ap (λ (i : ℕ). filled f i (st .args .entries .now)) e
+    let st = lp .before .before .before .before .before in
+    let f = numberOf (st .args .numbers .now) (st .args .entries .now) in
+    let g = labelFrom (st .args .n) (st .args .numbers .now) (st .args .marks .now) (st .args .entries .now) in
+    let e : lp .loop .c ≡ st .args .n = omega arith in (
+      lp .loop .inv .3 ∙ ap (λ (i : ℕ). filled f i (st .args .entries .now)) e,
+      lp .loop .inv .4 ∙ ap (λ (i : ℕ). filled g i (st .args .labels .now)) e,
+    )
 
 pub look-up-spec : {M : Type 1} → statement M
 look-up-spec =
@@ -102,16 +154,22 @@ look-up-spec =
     (tie.spec
     Inv-loop
     μ-loop
+    cast-all
     loop-holds
     mul-d
     slice-read-d
     cast-d
+    mul-number
+    shared-slice-read-number
     mul-entries
-    shared-slice-read-entries
-    mul-entries-2
     slice-write-entries
+    shared-slice-read-label-of
+    label-of-requires
+    mul-labels
+    slice-write-labels
     add-c
     loop-less
     loop-again
     same-length
+    same-length-2
     returns)

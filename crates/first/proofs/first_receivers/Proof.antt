@@ -1,49 +1,56 @@
--- `first::first_receivers` meets its contract. After c turns the list is filled with c first receivers, and col is the column of cell c.
+-- `first::first_receivers` meets its contract: each cell gets the cell that its weight leads to, and that is its first receiver.
 -- Assumes nothing.
 use mathlib.Core.Path.{ap, refl, sym, _∙_, _≡_}
-use Prim.Native.Nat.{ℕ, _%_, _-_, _<_, _≤_}
-use native.Mathlib.Nat.{mod-eq-of-lt, mod-lt}
+use Prim.Native.Nat.{ℕ, _-_, _≤_}
 use native.Mathlib.Omega.{arith}
 use lib.ListN.{length, length-set}
 use borrow.Author.Needs.{needs}
+use Rattle.first.proofs.Keys.{placed-step, weighed-placed}
+use Rattle.first.specs.Sides.{step}
+use Rattle.lists.proofs.Entries.{filled-same}
 use Rattle.lists.proofs.Fill.{filled-next, filled-none}
-use Rattle.lists.proofs.GridSides.{column-next}
-use Rattle.lists.specs.Lists.{filled}
+use Rattle.lists.specs.Lists.{at, filled}
 use Rattle.rules.specs.FirstWays.{firstReceiver}
 use Rattle.tiles.specs.Tile.{tileLand}
 use Rattle.first.proofs.first_receivers.Statement.{statement}
 use Rattle.first.proofs.first_receivers.Tie as tie
 
 abbrev Inv-loop : tie.InvT-loop
-Inv-loop w heights marks receivers₀ col₀ c₀ receivers col c =
-    (c ≤ length heights) × (col ≡ c % w) × (length receivers ≡ length receivers₀)
-    × (receivers ≡ filled (firstReceiver (tileLand w heights marks)) c receivers₀)
+Inv-loop w weights n out₀ down c₀ out c =
+    (c ≤ n) × (length out ≡ length out₀) × (out ≡ filled (λ i. step w i (at weights i)) c out₀)
 
 abbrev μ-loop : tie.MeasureT-loop
-μ-loop w heights marks receivers₀ col₀ c₀ receivers col c = length heights - c
+μ-loop w weights n out₀ down c₀ out c = n - c
+
+cast-down : tie.Need-cast-down Inv-loop μ-loop
+cast-down c = search needs
 
 loop-holds : tie.Need-loop-holds Inv-loop μ-loop
-loop-holds c = (omega arith, sym (mod-eq-of-lt (c .before .before .before .pre .0 .wide)), refl, sym (filled-none _ _))
+loop-holds c = (omega arith, refl, sym (filled-none _ _))
 
-cast-t10 : tie.Need-cast-t10 Inv-loop μ-loop
-cast-t10 c = search needs
+cast-led-to : tie.Need-cast-led-to Inv-loop μ-loop
+cast-led-to c = search needs
 
-first-receiver-requires : tie.Need-first-receiver-requires Inv-loop μ-loop
-first-receiver-requires c κs = search needs
+shared-slice-read-led-to : tie.Need-shared-slice-read-led-to Inv-loop μ-loop
+shared-slice-read-led-to c = search needs
 
-mul-receivers : tie.Need-mul-receivers Inv-loop μ-loop
-mul-receivers c = search needs
-
-slice-write-receivers : tie.Need-slice-write-receivers Inv-loop μ-loop
-slice-write-receivers c = search needs
-
-next-column-requires : tie.Need-next-column-requires Inv-loop μ-loop
-next-column-requires c κs =
+led-to-requires : tie.Need-led-to-requires Inv-loop μ-loop
+led-to-requires c κs =
     let lp = c .before .before in
-    let st = lp .before .before .before .before in
-    let T = st .pre .0 in
-    let in-row : lp .loop .c % st .args .w < st .args .w = mod-lt (lp .loop .c) (T .wide) in
-    (rw (lp .loop .inv .1) in-row, T .narrow)
+    let st = lp .before .before .before in
+    let (heights, marks, W) = st .pre .0 in
+    let T = W .tile in
+    let t = c .before .loop-test .taken in
+    let n = st .args .n in
+    let w = st .args .w in
+    let d = firstReceiver (tileLand w heights marks) (lp .loop .c) in
+    (T .wide, T .narrow, (n, d, t, search needs, weighed-placed w n heights marks (st .args .weights .now) W (lp .loop .c) t))
+
+mul-out : tie.Need-mul-out Inv-loop μ-loop
+mul-out c = search needs
+
+slice-write-out : tie.Need-slice-write-out Inv-loop μ-loop
+slice-write-out c = search needs
 
 add-c : tie.Need-add-c Inv-loop μ-loop
 add-c c = search needs
@@ -54,25 +61,28 @@ loop-less c = search needs
 loop-again : tie.Need-loop-again Inv-loop μ-loop
 loop-again c =
     let lp = c .before .before .before in
-    let st = lp .before .before .before .before in
-    let f : ℕ → ℕ = firstReceiver (tileLand (st .args .w) (st .args .heights .now) (st .args .marks .now)) in (
-      omega (arith, c .before .before .loop-test .taken),
-      c .next-column .ensures ∙ rw (lp .loop .inv .1) (column-next (st .args .w) (lp .loop .c) (st .pre .0 .wide)),
-      simp length-set (lp .loop .inv .2),
-      rw (c .before .first-receiver .ensures, lp .loop .inv .3)
-          (filled-next f (lp .loop .c) (st .args .receivers .now) (omega (arith, c .before .before .loop-test .taken))),
-    )
+    let st = lp .before .before .before in
+    let a = st .args in
+    let i = lp .loop .inv in
+    let next = filled-next (λ i. step (a .w) i (at (a .weights .now) i)) (lp .loop .c) (a .out .now) (search needs) in
+    (search needs, length-set (lp .loop .out) (lp .loop .c) (c .led-to .result) ∙ i .1, rw (c .led-to .ensures, i .2) next)
 
 same-length : tie.Need-same-length Inv-loop μ-loop
-same-length c = c .before .loop .inv .2
+same-length c = c .before .loop .inv .1
 
 returns : tie.Need-returns Inv-loop μ-loop
 returns c =
     let lp = c .before in
-    let st = lp .before .before .before .before in
-    let f : ℕ → ℕ = firstReceiver (tileLand (st .args .w) (st .args .heights .now) (st .args .marks .now)) in
-    let e : lp .loop .c ≡ length (st .args .heights .now) = omega arith in
-    lp .loop .inv .3 ∙ ap (λ (n : ℕ). filled f n (st .args .receivers .now)) e
+    let st = lp .before .before .before in
+    let w = st .args .w in
+    let n = st .args .n in
+    let out = st .args .out .now in
+    let ws = st .args .weights .now in
+    let led : ℕ → ℕ = λ i. step w i (at ws i) in
+    let e : lp .loop .c ≡ n = omega arith in
+    λ heights marks W. lp .loop .inv .2 ∙ ap (λ (k : ℕ). filled led k out) e
+    ∙ filled-same led (firstReceiver (tileLand w heights marks)) n out
+    (λ k h. placed-step w n k (firstReceiver (tileLand w heights marks) k) (at ws k) (weighed-placed w n heights marks ws W k h))
 
 pub first-receivers-spec : {M : Type 1} → statement M
 first-receivers-spec =
@@ -80,12 +90,13 @@ first-receivers-spec =
     (tie.spec
     Inv-loop
     μ-loop
+    cast-down
     loop-holds
-    cast-t10
-    first-receiver-requires
-    mul-receivers
-    slice-write-receivers
-    next-column-requires
+    cast-led-to
+    shared-slice-read-led-to
+    led-to-requires
+    mul-out
+    slice-write-out
     add-c
     loop-less
     loop-again

@@ -1,18 +1,33 @@
--- `ground::judge_cells_of_record` meets its contract: what the search gave decides, and then the marks, a stretch of the record.
+-- `ground::judge_cells_of_record` meets its contract: the greatest height says whether one is bad, the search gives the place, and
+-- else the marks decide, a stretch of the record.
 -- Assumes nothing.
-use mathlib.Core.Path.{_≡_}
+use mathlib.Core.Path.{sym, _≡_}
 use Prim.Native.Nat.{_*_, _-_}
 use native.Mathlib.Omega.{arith}
 use borrow.Author.Needs.{needs}
 use Rattle.ground.proofs.Judging.{heights-bad, heights-good}
-use Rattle.ground.proofs.RecordCells.{length-marks}
-use Rattle.ground.specs.Record.{groundIn}
+use Rattle.ground.proofs.RecordCells.{no-bad-height, some-bad-height}
+use Rattle.ground.specs.Record.{groundIn, liftsIn}
 use Rattle.lists.proofs.Grid.{rows-fit}
+use Rattle.lists.specs.Greatest.{greatest}
+use Rattle.lists.specs.Lent.{Below}
 use Rattle.ground.proofs.judge_cells_of_record.Statement.{statement}
 use Rattle.ground.proofs.judge_cells_of_record.Tie as tie
 
+bytes-below : (c : tie.After-shared-slice-known) → Below 256 (c .before .args .bytes .now)
+bytes-below c k l = omega (arith, c .shared-slice-known .given k)
+
+-- what the pass gave is the greatest height of all N cells
+greatest-of-all : (c : tie.After-greatest-height-of-record)
+    → let a = c .before .before .before .args in
+    c .greatest-height-of-record .result ≡ greatest (liftsIn (a .bytes .now) (a .height * a .width))
+greatest-of-all c = rw (c .before .cells .ensures) at (c .greatest-height-of-record .ensures)
+
 cells-requires : tie.Need-cells-requires
 cells-requires c κs = search needs
+
+greatest-height-of-record-requires : tie.Need-greatest-height-of-record-requires
+greatest-height-of-record-requires c κs = search needs
 
 wide-requires : tie.Need-wide-requires
 wide-requires c κs = search needs
@@ -23,20 +38,24 @@ wide-requires-2 c κs = search needs
 first-bad-height-of-record-requires : tie.Need-first-bad-height-of-record-requires
 first-bad-height-of-record-requires c κs = rw (c .wide2 .ensures .0, c .before .wide .ensures .0) (search needs)
 
-cast-t11 : tie.Need-cast-t11
-cast-t11 c =
-    let a = c .before .before .before .before .before .before in
-    let n = rows-fit (a .args .height) (a .args .width) (a .pre .1) (a .pre .0) in
-    let e = c .before .before .before .before .cells .ensures in
-    omega arith
+cast-t12 : tie.Need-cast-t12
+cast-t12 c =
+    let w = c .before .before in
+    let s = w .before .before .before .before .before in
+    let n = rows-fit (s .args .height) (s .args .width) (s .pre .1) (s .pre .0) in
+    omega (arith, rw (c .before .wide2 .ensures .0, w .wide .ensures .0) at (c .first-bad-height-of-record .ensures .1))
 
 returns : tie.Need-returns
 returns c =
-    let f = c .before in
-    let a = f .before .before .before .before .before .args in
-    let n = f .before .before .before .cells .ensures in
-    let e = rw (f .before .wide2 .ensures .0, f .before .before .wide .ensures .0) at (f .first-bad-height-of-record .ensures .0) in
-    heights-bad (groundIn (a .bytes .now) (a .width) (a .height)) e (omega arith)
+    let w = c .before .before in
+    let m = w .before .before in
+    let k = m .before .before in
+    let s = k .before in
+    let bytes = s .args .bytes .now in
+    let e = rw (c .before .wide2 .ensures .0, w .wide .ensures .0) at (c .first-bad-height-of-record .ensures .0) in
+    let above = rw (greatest-of-all m) at (w .before .if1 .taken) in
+    let found = some-bad-height bytes (s .args .height * s .args .width) (bytes-below k) (omega arith) above in
+    heights-bad (groundIn bytes (s .args .width) (s .args .height)) e (rw e found)
 
 mul-from : tie.Need-mul-from
 mul-from c = search needs
@@ -54,30 +73,32 @@ part-judge-marks-end : tie.Need-part-judge-marks-end
 part-judge-marks-end c = search needs
 
 judge-marks-requires : tie.Need-judge-marks-requires
-judge-marks-requires c κs =
-    let f = c .before .before in
-    let s = f .before .before .before .before .before in
-    let n = f .before .before .before .cells .ensures in
-    (s .pre .0, s .pre .1, length-marks (s .args .bytes .now) (f .before .before .before .cells .result) n (s .pre .2))
+judge-marks-requires c κs = search needs
 
 returns-2 : tie.Need-returns-2
 returns-2 c =
-    let f = c .before .before .before in
-    let a = f .before .before .before .before .before .args in
-    let n = f .before .before .before .cells .ensures in
-    let e = rw (f .before .wide2 .ensures .0, f .before .before .wide .ensures .0) at (f .first-bad-height-of-record .ensures .0) in
-    let w : 5 * (a .height * a .width) - 4 * (a .height * a .width) ≡ a .height * a .width = omega arith in
-    heights-good (groundIn (a .bytes .now) (a .width) (a .height)) e (omega arith) (rw (n, w) at (c .judge-marks .ensures))
+    let t = c .before .before in
+    let m = t .before in
+    let k = m .before .before in
+    let s = k .before in
+    let bytes = s .args .bytes .now in
+    let n = s .args .height * s .args .width in
+    let within = rw (greatest-of-all m) at (t .if1 .left) in
+    let none = no-bad-height bytes n (bytes-below k) (omega arith) within in
+    let w : 5 * n - 4 * n ≡ n = omega arith in
+    heights-good (groundIn bytes (s .args .width) (s .args .height)) (sym none) (omega arith)
+    (rw (m .before .cells .ensures, w) at (c .judge-marks .ensures))
 
 pub judge-cells-of-record-spec : {M : Type 1} → statement M
 judge-cells-of-record-spec =
     tie.close
     (tie.spec
     cells-requires
+    greatest-height-of-record-requires
     wide-requires
     wide-requires-2
     first-bad-height-of-record-requires
-    cast-t11
+    cast-t12
     returns
     mul-from
     mul-to

@@ -1,230 +1,196 @@
 -- `walk::climb` meets its contract.
--- Between turns the order begins with what is written, and what is on the stack stands for the rest of it (Midway).
+-- Between turns the invariant of Midst holds for all marks and receivers that the contract speaks of. Of those that it requires, the top
+-- cell, its receiver and its room on the stack are known (Tops), and so every index is in its list. Turns keeps the invariant.
 -- Assumes nothing.
 use mathlib.Core.List.{List}
-use mathlib.Core.Path.{refl, _∙_}
-use Prim.Native.Nat.{ℕ, _-_, _<_}
+use mathlib.Core.Path.{refl}
+use Prim.Native.Nat.{ℕ, _+_, _-_, _<_, _≤_}
 use native.Mathlib.Omega.{arith}
-use lib.ListN.{length, length-set}
+use lib.ListN.{length}
 use borrow.Author.Needs.{needs}
 use Rattle.lists.specs.Lists.{at}
 use Rattle.tiles.specs.Tile.{tileLand}
-use Rattle.walk.proofs.Ends.{setting, walked}
-use Rattle.walk.proofs.Midway.{begin, finish, Midway}
-use Rattle.walk.proofs.Pushes.{SameLengths}
-use Rattle.walk.proofs.Turns.{top-fits, top-room, turn}
-use Rattle.walk.specs.Walk.{Begun, lent, Linkage}
+use Rattle.walk.proofs.Midst.{begin, finish, Midst, still-room}
+use Rattle.walk.proofs.Tops.{bits-fit, cell-on, receiver-there, room, top}
+use Rattle.walk.proofs.Turns.{turn}
+use Rattle.walk.specs.Climb.{cellIn, maskIn, ones, Ready, receiverIn}
+use Rattle.walk.specs.Walk.{lent, Lent, Margin, Room}
 use Rattle.walk.proofs.climb.Statement.{statement}
 use Rattle.walk.proofs.climb.Tie as tie
 
 abbrev Inv-loop : tie.InvT-loop
-Inv-loop w heights links order₀ receivers₀ levels₀ written₀ top₀ order receivers levels written top =
-    SameLengths (lent order₀ receivers₀ levels₀) (lent order receivers levels)
-    × ((marks : List ℕ) → (r : List ℕ) → Linkage w heights marks links r → Begun w heights marks (lent order₀ receivers₀ levels₀) (top₀ .0)
-    → Midway (tileLand w heights marks) r (length heights) (lent order₀ receivers₀ levels₀) (lent order receivers levels) (written .0)
-    (top .0))
+Inv-loop w heights links stack₀ order₀ receivers₀ levels₀ wets₀ top₀ written₀ stack order receivers levels wets top written =
+    (marks : List ℕ) → (r : List ℕ) → Margin w heights marks links r
+    → Ready w heights marks r (lent stack₀ order₀ receivers₀ levels₀ wets₀) (top₀ .0)
+    → Midst w (tileLand w heights marks) r (lent stack₀ order₀ receivers₀ levels₀ wets₀) (lent stack order receivers levels wets)
+    (written .0) (top .0)
 
 abbrev μ-loop : tie.MeasureT-loop
-μ-loop w heights links order₀ receivers₀ levels₀ written₀ top₀ order receivers levels written top = length heights - written .0
-
-loop-holds : tie.Need-loop-holds Inv-loop μ-loop
-loop-holds c =
-    let st = c .before .before .before .before .before in (
-      record { same-order = refl; same-receivers = refl; same-levels = refl },
-      λ marks r K B. begin (tileLand (st .args .w) (st .args .heights .now) marks) r (st .args .w) (length (st .args .heights .now))
-          (st .args .heights .now) (st .args .links .now)
-          (setting (st .args .w) (st .args .heights .now) marks (st .args .links .now) r K)
-          (lent (st .args .order .now) (st .args .receivers .now) (st .args .levels .now)) (st .args .outlets .0)
-          (B .room .fits-order) (B .top) (B .stack) (B .noted-receivers) (B .noted-levels),
-    )
+μ-loop w heights links stack₀ order₀ receivers₀ levels₀ wets₀ top₀ written₀ stack order receivers levels wets top written =
+    length heights - written .0
 
 abbrev start : tie.At-loop Inv-loop μ-loop → tie.Start Inv-loop μ-loop
-start lp = lp .before .before .before .before .before .before
+start lp = lp .before .before .before .before .before .before .before .before
 
--- the invariant at the land and the receivers that are required
-midway : (lp : tie.At-loop Inv-loop μ-loop)
-    → Midway (tileLand (start lp .args .w) (start lp .args .heights .now) (start lp .pre .0)) (start lp .pre .1)
-    (length (start lp .args .heights .now))
-    (lent (start lp .args .order .now) (start lp .args .receivers .now) (start lp .args .levels .now))
-    (lent (lp .loop .order) (lp .loop .receivers) (lp .loop .levels)) (lp .loop .written .0) (lp .loop .top .0)
-midway lp = let st = start lp in lp .loop .inv .1 (st .pre .0) (st .pre .1) (st .pre .2) (st .pre .3)
+abbrev given : tie.At-loop Inv-loop μ-loop → Lent
+given lp =
+    let a = start lp .args in
+    lent (a .stack .now) (a .order .now) (a .receivers .now) (a .levels .now) (a .wets .now)
+
+abbrev held : tie.At-loop Inv-loop μ-loop → Lent
+held lp = lent (lp .loop .stack) (lp .loop .order) (lp .loop .receivers) (lp .loop .levels) (lp .loop .wets)
+
+-- the invariant at the marks and the receivers that are required
+midst : (lp : tie.At-loop Inv-loop μ-loop)
+    → Midst (start lp .args .w) (tileLand (start lp .args .w) (start lp .args .heights .now) (start lp .pre .0 .0)) (start lp .pre .0 .1)
+    (given lp) (held lp) (lp .loop .written .0) (lp .loop .top .0)
+midst lp = let p = start lp .pre .0 in lp .loop .inv (p .0) (p .1) (p .2) (p .3)
+
+abbrev cells : tie.At-loop Inv-loop μ-loop → ℕ
+cells lp = length (start lp .args .heights .now)
+
+-- the top entry
+abbrev entry : tie.At-loop Inv-loop μ-loop → ℕ
+entry lp = at (lp .loop .stack) (lp .loop .top .0)
+
+-- what is known at each turn
+record Turn (lp : tie.At-loop Inv-loop μ-loop) : Type 0 where
+  pub few : cells lp ≤ 4096
+  pub wide : 0 < start lp .args .w
+  pub narrow : start lp .args .w ≤ 64
+  pub margin : cells lp + 128 ≤ length (start lp .args .links .now)
+  pub fits : Room (cells lp) (held lp)
+  pub here : lp .loop .top .0 < cells lp
+  pub more : lp .loop .written .0 < cells lp
+  pub cell-on : cellIn (entry lp) < cells lp
+  pub receiver-there : receiverIn (entry lp) < cells lp
+  pub bits : ones (maskIn (entry lp)) ≤ lp .loop .top .0
+
+turn-here : (lp : tie.At-loop Inv-loop μ-loop) → lp .loop .top .0 < cells lp → Turn lp
+turn-here lp t =
+    let M = start lp .pre .0 .2 in
+    let I = midst lp in
+    let fits = still-room M I (start lp .pre .1) in
+    let T = top M I t (fits .fits-stack) in
+    record {
+      few = M .inside .tile .few;
+      wide = M .inside .tile .wide;
+      narrow = M .inside .tile .narrow;
+      margin = M .wide;
+      fits = fits;
+      here = t;
+      more = room M I T .0;
+      cell-on = cell-on M I T;
+      receiver-there = receiver-there M I T;
+      bits = bits-fit M I T;
+    }
+
+loop-holds : tie.Need-loop-holds Inv-loop μ-loop
+loop-holds c = λ marks r M R. begin M R
 
 cast-if1 : tie.Need-cast-if1 Inv-loop μ-loop
 cast-if1 c = search needs
 
-cast-t11 : tie.Need-cast-t11 Inv-loop μ-loop
-cast-t11 c = search needs
+cast-t14 : tie.Need-cast-t14 Inv-loop μ-loop
+cast-t14 c = search needs
 
-mul-t12 : tie.Need-mul-t12 Inv-loop μ-loop
-mul-t12 c =
-    let lp = c .before .before .before in
-    let st = lp .before .before .before .before .before .before in
-    let I = midway lp in
-    let n-small = st .pre .2 .tile .few in
-    let room = st .pre .3 .room .fits-order in
-    let same = lp .loop .inv .0 .same-order in
-    let t : lp .loop .top .0 < length (st .args .heights .now) = c .before .if1 .taken in
-    omega arith
+mul-t15 : tie.Need-mul-t15 Inv-loop μ-loop
+mul-t15 c = omega (arith, turn-here (c .before .before .before) (c .before .if1 .taken))
 
-slice-read-t15 : tie.Need-slice-read-t15 Inv-loop μ-loop
-slice-read-t15 c =
-    let lp = c .before .before .before .before in
-    let st = lp .before .before .before .before .before .before in
-    let I = midway lp in
-    let n-small = st .pre .2 .tile .few in
-    let room = st .pre .3 .room .fits-order in
-    let same = lp .loop .inv .0 .same-order in
-    let t : lp .loop .top .0 < length (st .args .heights .now) = c .before .before .if1 .taken in
-    omega arith
+slice-read-t18 : tie.Need-slice-read-t18 Inv-loop μ-loop
+slice-read-t18 c = omega (arith, turn-here (c .before .before .before .before) (c .before .before .if1 .taken))
+
+cell-requires : tie.Need-cell-requires Inv-loop μ-loop
+cell-requires c κs = search needs
 
 cast-order : tie.Need-cast-order Inv-loop μ-loop
 cast-order c = search needs
 
 mul-order : tie.Need-mul-order Inv-loop μ-loop
 mul-order c =
-    let lp = c .before .before .before .before .before in
-    let st = lp .before .before .before .before .before .before in
-    let I = midway lp in
-    let n-small = st .pre .2 .tile .few in
-    let room = st .pre .3 .room .fits-order in
-    let same = lp .loop .inv .0 .same-order in
-    let t : lp .loop .top .0 < length (st .args .heights .now) = c .before .before .before .if1 .taken in
-    let k = I .at-t in
-    omega arith
+    let tested = c .before .before .before .before in
+    omega (arith, turn-here (tested .before .before) (tested .if1 .taken))
 
 slice-write-order : tie.Need-slice-write-order Inv-loop μ-loop
 slice-write-order c =
-    let lp = c .before .before .before .before .before in
-    let st = lp .before .before .before .before .before .before in
-    let I = midway lp in
-    let n-small = st .pre .2 .tile .few in
-    let room = st .pre .3 .room .fits-order in
-    let same = lp .loop .inv .0 .same-order in
-    let t : lp .loop .top .0 < length (st .args .heights .now) = c .before .before .before .if1 .taken in
-    let k = I .at-t in
-    omega arith
+    let tested = c .before .before .before .before in
+    omega (arith, turn-here (tested .before .before) (tested .if1 .taken))
 
-add-t15 : tie.Need-add-t15 Inv-loop μ-loop
-add-t15 c =
-    let lp = c .before .before .before .before .before .before in
-    let st = lp .before .before .before .before .before .before in
-    let I = midway lp in
-    let n-small = st .pre .2 .tile .few in
-    let room = st .pre .3 .room .fits-order in
-    let same = lp .loop .inv .0 .same-order in
-    let t : lp .loop .top .0 < length (st .args .heights .now) = c .before .before .before .before .if1 .taken in
-    let k = I .at-t in
-    omega arith
-
-add-t15-2 : tie.Need-add-t15-2 Inv-loop μ-loop
-add-t15-2 c =
-    let lp = c .before .before .before .before .before .before .before .before .before .before in
-    let st = lp .before .before .before .before .before .before in
-    let I = midway lp in
-    let n-small = st .pre .2 .tile .few in
-    let room = st .pre .3 .room .fits-order in
-    let same = lp .loop .inv .0 .same-order in
-    let t : lp .loop .top .0 < length (st .args .heights .now) =
-    c .before .before .before .before .before .before .before .before .if1 .taken in
-    omega arith
+mask-requires : tie.Need-mask-requires Inv-loop μ-loop
+mask-requires c κs = search needs
 
 visit-requires : tie.Need-visit-requires Inv-loop μ-loop
 visit-requires c κs =
-    let lp = c .before .before .before .before .before .before .before .before .before .before in
-    let st = lp .before .before .before .before .before .before in
-    let I = midway lp in
-    let n-small = st .pre .2 .tile .few in
-    let room = st .pre .3 .room .fits-order in
-    let same = lp .loop .inv .0 .same-order in
-    let t : lp .loop .top .0 < length (st .args .heights .now) =
-    c .before .before .before .before .before .before .before .before .if1 .taken in
-    let room-receivers = st .pre .3 .room .fits-receivers in
-    let room-levels = st .pre .3 .room .fits-levels in
-    let same-receivers = lp .loop .inv .0 .same-receivers in
-    let same-levels = lp .loop .inv .0 .same-levels in
-    let size = length-set (lp .loop .order) (lp .loop .written .0) (at (lp .loop .order) (lp .loop .top .0)) in (
-      (
-        top-fits (tileLand (st .args .w) (st .args .heights .now) (st .pre .0)) (st .pre .1) (st .args .w) (length (st .args .heights .now))
-            (st .args .heights .now) (st .args .links .now)
-            (setting (st .args .w) (st .args .heights .now) (st .pre .0) (st .args .links .now) (st .pre .1) (st .pre .2))
-            (lent (st .args .order .now) (st .args .receivers .now) (st .args .levels .now))
-            (lent (lp .loop .order) (lp .loop .receivers) (lp .loop .levels)) (lp .loop .written .0) (lp .loop .top .0) I t,
-        st .pre .2 .fits-links,
-      ),
-      (
-        (omega arith, omega arith),
-        (
-          top-room (tileLand (st .args .w) (st .args .heights .now) (st .pre .0)) (st .pre .1) (st .args .w)
-              (length (st .args .heights .now)) (st .args .heights .now) (st .args .links .now)
-              (setting (st .args .w) (st .args .heights .now) (st .pre .0) (st .args .links .now) (st .pre .1) (st .pre .2))
-              (lent (st .args .order .now) (st .args .receivers .now) (st .args .levels .now))
-              (lent (lp .loop .order) (lp .loop .receivers) (lp .loop .levels)) (lp .loop .written .0) (lp .loop .top .0) I t,
-          omega arith,
-        ),
-      ),
+    let reading = c .before .before .before in
+    let tested = reading .before .before .before in
+    let lp = tested .before .before in
+    let T = turn-here lp (tested .if1 .taken) in
+    let cell : reading .cell .result .0 < cells lp = rw (reading .cell .ensures .0) (T .cell-on) in
+    let few = T .few in let margin = T .margin in let fits = T .fits .fits-stack in let here = T .here in (
+      (T .wide, T .narrow, omega arith, omega arith, c .mask .ensures .1),
+      (rw (c .mask .ensures .0) (T .bits), omega arith, omega arith),
     )
+
+receiver-requires : tie.Need-receiver-requires Inv-loop μ-loop
+receiver-requires c κs = search needs
+
+settle-requires : tie.Need-settle-requires Inv-loop μ-loop
+settle-requires c κs =
+    let reading = c .before .before .before .before .before .before .before .before .before .before in
+    let tested = reading .before .before .before in
+    let lp = tested .before .before in
+    let T = turn-here lp (tested .if1 .taken) in
+    let cell : reading .cell .result .0 < cells lp = rw (reading .cell .ensures .0) (T .cell-on) in
+    let receiver : c .receiver .result .0 < cells lp = rw (c .receiver .ensures) (T .receiver-there) in
+    let r = T .fits .fits-receivers in let l = T .fits .fits-levels in let v = T .fits .fits-wets in
+    (cell, omega arith, omega arith, omega arith, omega arith)
+
+add-t31 : tie.Need-add-t31 Inv-loop μ-loop
+add-t31 c =
+    let visiting = c .before .before .before .before .before .before .before .before .before .before .before .before .before .before in
+    let tested = visiting .before .before .before .before .before .before .before in
+    omega (arith, turn-here (tested .before .before) (tested .if1 .taken))
 
 loop-less : tie.Need-loop-less Inv-loop μ-loop
 loop-less c =
-    let b1 = c .before .before .before .before .before .before .before .before .before .before .before .before .before .before in
-    let lp = b1 .before .before .before in
-    let st = lp .before .before .before .before .before .before in
-    let I = midway lp in
-    let n-small = st .pre .2 .tile .few in
-    let room = st .pre .3 .room .fits-order in
-    let same = lp .loop .inv .0 .same-order in
-    let t : lp .loop .top .0 < length (st .args .heights .now) = b1 .before .if1 .taken in
-    let k = I .at-t in
-    omega arith
+    let visiting = c .before .before .before .before .before .before .before .before .before .before .before .before .before .before in
+    let tested = visiting .before .before .before .before .before .before .before in
+    omega (arith, turn-here (tested .before .before) (tested .if1 .taken) .more)
 
 loop-again : tie.Need-loop-again Inv-loop μ-loop
 loop-again c =
-    let b1 = c .before .before .before .before .before .before .before .before .before .before .before .before .before .before in
-    let lp = b1 .before .before .before in
-    let st = lp .before .before .before .before .before .before in
-    let t : lp .loop .top .0 < length (st .args .heights .now) = b1 .before .if1 .taken in
-    let pushed = c .before .before .before .before .before .before .visit in
-    let same = lp .loop .inv .0 in (
-      record {
-        same-order =
-            pushed .kept .1 .1 .1 .0 ∙ length-set (lp .loop .order) (lp .loop .written .0) (at (lp .loop .order) (lp .loop .top .0))
-            ∙ same .same-order;
-        same-receivers = pushed .kept .1 .1 .1 .1 .0 ∙ same .same-receivers;
-        same-levels = pushed .kept .1 .1 .1 .1 .1 .0 ∙ same .same-levels;
-      },
-      λ marks r K B. turn (tileLand (st .args .w) (st .args .heights .now) marks) r (st .args .w) (length (st .args .heights .now))
-          (st .args .heights .now) (st .args .links .now)
-          (setting (st .args .w) (st .args .heights .now) marks (st .args .links .now) r K)
-          (lent (st .args .order .now) (st .args .receivers .now) (st .args .levels .now))
-          (lent (lp .loop .order) (lp .loop .receivers) (lp .loop .levels)) (lp .loop .written .0) (lp .loop .top .0)
-          (lp .loop .inv .1 marks r K B) t
-          (lent (pushed .last .1 .1 .1 .0) (pushed .last .1 .1 .1 .1 .0) (pushed .last .1 .1 .1 .1 .1 .0)) (pushed .result .0)
-          (let a = B .room .fits-receivers in let b = same .same-receivers in omega arith)
-          (let a = B .room .fits-levels in let b = same .same-levels in omega arith) (pushed .ensures),
-    )
+    let settling = c .before .before .before .before .before .before .before in
+    let visiting = settling .before .before .before .before .before .before .before in
+    let reading = visiting .before .before .before .before in
+    let tested = reading .before .before .before in
+    let lp = tested .before .before in
+    let z = settling .settle in let q = settling .before .receiver in
+    let v = visiting .visit in let m = visiting .before .mask in let x = reading .cell in
+    let fits = turn-here lp (tested .if1 .taken) .fits .fits-stack in
+    λ marks r M R.
+    let T = top M (lp .loop .inv marks r M R) (tested .if1 .taken) fits in
+    turn M T (start lp .pre .1) (x .result .0) (q .result .0) (m .result) (x .ensures .0) (q .ensures) (m .ensures .0) (v .kept .1 .1 .0)
+    (v .ensures .0) (v .ensures .1) refl (z .ensures .0) (z .ensures .1) (z .ensures .2)
 
 same-length : tie.Need-same-length Inv-loop μ-loop
-same-length c = c .before .before .loop .inv .0 .same-order
+same-length c = midst (c .before .before) .size-stack
 
 same-length-2 : tie.Need-same-length-2 Inv-loop μ-loop
-same-length-2 c = c .before .before .loop .inv .0 .same-receivers
+same-length-2 c = midst (c .before .before) .size-order
 
 same-length-3 : tie.Need-same-length-3 Inv-loop μ-loop
-same-length-3 c = c .before .before .loop .inv .0 .same-levels
+same-length-3 c = midst (c .before .before) .noted-receivers .size
+
+same-length-4 : tie.Need-same-length-4 Inv-loop μ-loop
+same-length-4 c = midst (c .before .before) .noted-levels .size
+
+same-length-5 : tie.Need-same-length-5 Inv-loop μ-loop
+same-length-5 c = midst (c .before .before) .noted-wets .size
 
 returns : tie.Need-returns Inv-loop μ-loop
 returns c =
     let lp = c .before .before in
-    let st = lp .before .before .before .before .before .before in
-    λ marks r K B. walked (st .args .w) (st .args .heights .now) marks (st .args .links .now) r K
-    (lent (st .args .order .now) (st .args .receivers .now) (st .args .levels .now))
-    (lent (lp .loop .order) (lp .loop .receivers) (lp .loop .levels)) (lp .loop .written .0) (B .room)
-    (finish (tileLand (st .args .w) (st .args .heights .now) marks) r (st .args .w) (length (st .args .heights .now))
-    (st .args .heights .now) (st .args .links .now)
-    (setting (st .args .w) (st .args .heights .now) marks (st .args .links .now) r K)
-    (lent (st .args .order .now) (st .args .receivers .now) (st .args .levels .now))
-    (lent (lp .loop .order) (lp .loop .receivers) (lp .loop .levels)) (lp .loop .written .0) (lp .loop .top .0) (B .room .fits-order)
-    (lp .loop .inv .1 marks r K B) (omega (arith, c .if1 .left)))
+    λ marks r M R. finish M (lp .loop .inv marks r M R) (c .if1 .left) (start lp .pre .1)
 
 pub climb-spec : {M : Type 1} → statement M
 climb-spec =
@@ -234,18 +200,23 @@ climb-spec =
     μ-loop
     loop-holds
     cast-if1
-    cast-t11
-    mul-t12
-    slice-read-t15
+    cast-t14
+    mul-t15
+    slice-read-t18
+    cell-requires
     cast-order
     mul-order
     slice-write-order
-    add-t15
-    add-t15-2
+    mask-requires
     visit-requires
+    receiver-requires
+    settle-requires
+    add-t31
     loop-less
     loop-again
     same-length
     same-length-2
     same-length-3
+    same-length-4
+    same-length-5
     returns)

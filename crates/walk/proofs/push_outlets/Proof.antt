@@ -1,124 +1,115 @@
--- `walk::push_outlets` meets its contract. From the last cell down: the outlets from cell c on are pushed.
+-- `walk::push_outlets` meets its contract.
+-- Between turns the outlets from cell c on are pushed (Begins): the top is no lower than c, so there is room for one more.
 -- Assumes nothing.
-use mathlib.Core.List.{List}
-use mathlib.Core.Path.{subst, _≡_}
-use Prim.Native.Nat.{ℕ, _+_, _-_, _<_, _≤_}
+use mathlib.Core.Bool.{Bool, cond}
+use mathlib.Core.List.{List, map, _++_}
+use mathlib.Core.Path.{ap, refl, sym, _∙_, _≡_}
+use Prim.Native.Nat.{ℕ, _*_, _+_, _-_, _≤_}
 use native.Mathlib.Omega.{arith}
-use lib.ListN.{length}
+use lib.ListN.{drop, length}
 use borrow.Author.Needs.{needs}
-use Rattle.lists.specs.Lists.{at, keep, range}
-use Rattle.walk.proofs.Pushes.{outlet-short, outlets-all, outlets-few, outlets-next, outlets-none, push-none, push-then}
-use Rattle.walk.proofs.Pushes.{pushed-length}
-use Rattle.walk.specs.Walk.{lent, marked, outletAt, PushedOutlets}
+use Rattle.lists.specs.Lists.{keep, upto}
+use Rattle.walk.proofs.Begins.{Begun, begun-next}
+use Rattle.walk.proofs.Outlets.{outlets-all, outlets-few, outlets-none, outletsFrom}
+use Rattle.walk.specs.Climb.{outletEntry}
+use Rattle.walk.specs.Walk.{marked}
 use Rattle.walk.proofs.push_outlets.Statement.{statement}
 use Rattle.walk.proofs.push_outlets.Tie as tie
 
 abbrev Inv-loop : tie.InvT-loop
-Inv-loop heights marks order₀ receivers₀ levels₀ c₀ top₀ order receivers levels c top =
-    (c ≤ length heights)
-    × PushedOutlets heights (length heights) (keep (marked marks) (range c (length heights - c)))
-    (lent order₀ receivers₀ levels₀) (lent order receivers levels) (top .0)
+Inv-loop marks links stack₀ c₀ top₀ stack c top =
+    (c ≤ length marks) × (length stack ≡ length stack₀) × Begun links marks stack₀ stack (length marks) c (top .0)
 
 abbrev μ-loop : tie.MeasureT-loop
-μ-loop heights marks order₀ receivers₀ levels₀ c₀ top₀ order receivers levels c top = c
+μ-loop marks links stack₀ c₀ top₀ stack c top = c
 
-cast-t9 : tie.Need-cast-t9 Inv-loop μ-loop
-cast-t9 c = omega (arith, c .before .before .before .before .before .pre .0 .1)
+cast-t8 : tie.Need-cast-t8 Inv-loop μ-loop
+cast-t8 c = search needs
 
 loop-holds : tie.Need-loop-holds Inv-loop μ-loop
 loop-holds c =
-    let st = c .before .before .before .before .before in
-    let hs = st .args .heights .now in
-    (omega arith, push-none (λ d. d) (at hs) (length hs) _ _ (outlets-none (st .args .marks .now) (length hs)))
+    let ms = c .before .before .before .args .marks .now in
+    let e = outlets-none ms (length ms) in
+    let l : length (outletsFrom ms (length ms) (length ms)) ≡ 0 = ap length e in
+    (omega arith, refl, record { count = omega arith; from-top = rw e })
 
 sub-c : tie.Need-sub-c Inv-loop μ-loop
 sub-c c = search needs
 
-cast-t17 : tie.Need-cast-t17 Inv-loop μ-loop
-cast-t17 c = search needs
+cast-t10 : tie.Need-cast-t10 Inv-loop μ-loop
+cast-t10 c = search needs
 
-push-outlet-requires : tie.Need-push-outlet-requires Inv-loop μ-loop
-push-outlet-requires c κs =
-    let lp = c .before .before .before .before in
-    let st = lp .before .before .before .before .before .before in
-    let hs = st .args .heights .now in
-    let P = lp .loop .inv .1 in
-    let same = pushed-length (λ d. d) (at hs) (length hs) (st .pre .1 .fits-order) P in
+mul-t11 : tie.Need-mul-t11 Inv-loop μ-loop
+mul-t11 c = search needs
+
+add-wide : tie.Need-add-wide Inv-loop μ-loop
+add-wide c = search needs
+
+shared-slice-read-wide : tie.Need-shared-slice-read-wide Inv-loop μ-loop
+shared-slice-read-wide c = search needs
+
+wide-requires : tie.Need-wide-requires Inv-loop μ-loop
+wide-requires c κs = search needs
+
+add-t16 : tie.Need-add-t16 Inv-loop μ-loop
+add-t16 c = search needs
+
+cast-t19 : tie.Need-cast-t19 Inv-loop μ-loop
+cast-t19 c = search needs
+
+is-outlet-requires : tie.Need-is-outlet-requires Inv-loop μ-loop
+is-outlet-requires c κs = search needs
+
+one-if-requires : tie.Need-one-if-requires Inv-loop μ-loop
+one-if-requires c κs = search needs
+
+push-requires : tie.Need-push-requires Inv-loop μ-loop
+push-requires c κs =
+    let lp = c .before .before .before .before .before .before in
+    let st = lp .before .before .before .before in
     let ms = st .args .marks .now in
-    let test : 0 < lp .loop .c = c .before .before .before .loop-test .taken in
-    let top : lp .loop .top .0 + length (keep (marked ms) (range (lp .loop .c) (length hs - lp .loop .c))) ≡ length hs = P .top in
-    let few : length (keep (marked ms) (range (lp .loop .c) (length hs - lp .loop .c))) ≤ length hs - lp .loop .c =
-    outlets-few ms (length hs) (lp .loop .c) in
-    let short : length (outletAt ms (lp .loop .c - 1)) ≤ 1 = outlet-short ms (lp .loop .c - 1) in
-    let marks-same : length ms ≡ length hs = st .pre .0 .0 in
-    let room-order : length hs ≤ length (st .args .order .now) = st .pre .1 .fits-order in
-    let room-receivers : length hs ≤ length (st .args .receivers .now) = st .pre .1 .fits-receivers in
-    let room-levels : length hs ≤ length (st .args .levels .now) = st .pre .1 .fits-levels in
-    let on : lp .loop .c ≤ length hs = lp .loop .inv .0 in
-    let a = same .same-order in
-    let b = same .same-receivers in
-    let d = same .same-levels in
-    ((omega arith, omega arith, omega arith), (omega arith, omega arith, omega arith))
+    let t = c .before .before .before .before .before .loop-test .taken in
+    let low = lp .loop .inv .0 in let size = lp .loop .inv .1 in let count = lp .loop .inv .2 .count in let room = st .pre in
+    let few = outlets-few ms (length ms) (lp .loop .c) in
+    (omega arith, omega arith, c .one-if .ensures .1)
 
 loop-less : tie.Need-loop-less Inv-loop μ-loop
-loop-less c = omega (arith, c .before .before .before .before .before .before .before .before .before .before .loop-test .taken)
+loop-less c = search needs
 
 loop-again : tie.Need-loop-again Inv-loop μ-loop
 loop-again c =
-    let lp = c .before .before .before .before .before .before .before .before .before .before .before in
-    let st = lp .before .before .before .before .before .before in
-    let hs = st .args .heights .now in
-    let P = lp .loop .inv .1 in
-    let same = pushed-length (λ d. d) (at hs) (length hs) (st .pre .1 .fits-order) P in
-    let ms = st .args .marks .now in
-    let pushed = c .before .before .before .before .before .before .push-outlet in
-    let test : 0 < lp .loop .c = c .before .before .before .before .before .before .before .before .before .before .loop-test .taken in
-    let on : lp .loop .c ≤ length hs = lp .loop .inv .0 in (
+    let lp = c .before .before .before .before .before .before .before .before .before in
+    let a = lp .before .before .before .before .args in
+    let ms = a .marks .now in
+    let i = lp .loop .inv in
+    let p = c .before .before .push in
+    let bit = c .before .before .before .one-if in
+    let outlet = c .before .before .before .before .is-outlet in
+    let links = c .before .before .before .before .before .before .wide in
+    let t = c .before .before .before .before .before .before .before .before .loop-test .taken in
+    let low = i .0 in (
       omega arith,
-      subst
-          (λ (ds : List ℕ). PushedOutlets hs (length hs) ds (lent (st .args .order .now) (st .args .receivers .now) (st .args .levels .now))
-          (lent (pushed .last .1 .1 .0) (pushed .last .1 .1 .1 .0) (pushed .last .1 .1 .1 .1 .0)) (pushed .result .0))
-          (outlets-next ms (length hs) (lp .loop .c) test on)
-          (push-then (λ d. d) (at hs) (length hs) (st .pre .1 .fits-order) P (pushed .ensures)),
+      p .kept .0 ∙ i .1,
+      begun-next (a .links .now) ms (a .stack .now) (lp .loop .stack) (p .last .0) (length ms) (lp .loop .c) (lp .loop .top .0)
+          (p .result .0) (bit .result) (65552 * (lp .loop .c - 1) + links .result) t low (i .2)
+          (bit .ensures .0 ∙ ap (λ (t : Bool). cond t 1 0) (outlet .ensures))
+          (ap (λ (y : ℕ). 65552 * (lp .loop .c - 1) + y) (links .ensures .0)) (p .ensures .0) (p .ensures .1),
     )
 
 same-length : tie.Need-same-length Inv-loop μ-loop
-same-length c =
-    let lp = c .before in
-    let st = lp .before .before .before .before .before .before in
-    let hs = st .args .heights .now in
-    let P = lp .loop .inv .1 in
-    let same = pushed-length (λ d. d) (at hs) (length hs) (st .pre .1 .fits-order) P in
-    same .same-order
-
-same-length-2 : tie.Need-same-length-2 Inv-loop μ-loop
-same-length-2 c =
-    let lp = c .before in
-    let st = lp .before .before .before .before .before .before in
-    let hs = st .args .heights .now in
-    let P = lp .loop .inv .1 in
-    let same = pushed-length (λ d. d) (at hs) (length hs) (st .pre .1 .fits-order) P in
-    same .same-receivers
-
-same-length-3 : tie.Need-same-length-3 Inv-loop μ-loop
-same-length-3 c =
-    let lp = c .before in
-    let st = lp .before .before .before .before .before .before in
-    let hs = st .args .heights .now in
-    let P = lp .loop .inv .1 in
-    let same = pushed-length (λ d. d) (at hs) (length hs) (st .pre .1 .fits-order) P in
-    same .same-levels
+same-length c = c .before .loop .inv .1
 
 returns : tie.Need-returns Inv-loop μ-loop
 returns c =
     let lp = c .before in
-    let st = lp .before .before .before .before .before .before in
-    let hs = st .args .heights .now in
-    let e : lp .loop .c ≡ 0 = omega (arith, c .loop-test .left) in
-    subst
-    (λ (ds : List ℕ). PushedOutlets hs (length hs) ds (lent (st .args .order .now) (st .args .receivers .now) (st .args .levels .now))
-    (lent (lp .loop .order) (lp .loop .receivers) (lp .loop .levels)) (lp .loop .top .0))
-    (outlets-all (st .args .marks .now) (length hs) (lp .loop .c) e) (lp .loop .inv .1)
+    let a = lp .before .before .before .before .args in
+    let ms = a .marks .now in
+    let I = lp .loop .inv .2 in
+    let z : lp .loop .c ≡ 0 = omega (arith, c .loop-test .left) in
+    let e : outletsFrom ms (length ms) (lp .loop .c) ≡ keep (marked ms) (upto (length ms)) = outlets-all ms (length ms) (lp .loop .c) z in (
+      ap (λ (l : List ℕ). lp .loop .top .0 + length l) (sym e) ∙ I .count,
+      I .from-top ∙ ap (λ (l : List ℕ). map (outletEntry (a .links .now)) l ++ drop (length ms) (a .stack .now)) e,
+    )
 
 pub push-outlets-spec : {M : Type 1} → statement M
 push-outlets-spec =
@@ -126,14 +117,20 @@ push-outlets-spec =
     (tie.spec
     Inv-loop
     μ-loop
-    cast-t9
+    cast-t8
     loop-holds
     sub-c
-    cast-t17
-    push-outlet-requires
+    cast-t10
+    mul-t11
+    add-wide
+    shared-slice-read-wide
+    wide-requires
+    add-t16
+    cast-t19
+    is-outlet-requires
+    one-if-requires
+    push-requires
     loop-less
     loop-again
     same-length
-    same-length-2
-    same-length-3
     returns)

@@ -1,26 +1,44 @@
--- `walk::walk_links` meets its contract. The outlets are pushed, and the walk climbs from them.
+-- `walk::walk_links` meets its contract: with the outlets' entries on the stack and heights in the place of levels the walk may begin
+-- (Begins), and what it leaves of those lists it leaves of the lists before.
 -- Assumes nothing.
+use mathlib.Core.Path.{_≡_}
+use native.Mathlib.Omega.{arith}
+use lib.ListN.{length}
 use borrow.Author.Needs.{needs}
-use Rattle.walk.proofs.Ends.{begun, walked-from}
-use Rattle.walk.specs.Walk.{lent}
+use Rattle.walk.proofs.Begins.{ready, walked-from}
 use Rattle.walk.proofs.walk_links.Statement.{statement}
 use Rattle.walk.proofs.walk_links.Tie as tie
+
+note-heights-requires : tie.Need-note-heights-requires
+note-heights-requires c κs = search needs
 
 push-outlets-requires : tie.Need-push-outlets-requires
 push-outlets-requires c κs = search needs
 
 climb-requires : tie.Need-climb-requires
 climb-requires c κs =
-    let at-pushed = c .before .before .before .before .before .before .before .before .before in
-    let st = at-pushed .before .before .before .before .before .before .before .before .before .before in
-    let pushed = at-pushed .push-outlets in (
-      st .args .marks .now,
-      st .pre .0 .0,
-      st .pre .0 .1,
-      begun (st .args .w) (st .args .heights .now) (st .args .marks .now)
-          (lent (st .args .order .now) (st .args .receivers .now) (st .args .levels .now))
-          (lent (pushed .last .1 .1 .0) (pushed .last .1 .1 .1 .0) (pushed .last .1 .1 .1 .1 .0)) (pushed .result .0) (st .pre .1)
-          (pushed .ensures),
+    let pushing = c .before .before .before .before .before .before .before in
+    let noting = pushing .before .before .before .before in
+    let st = noting .before .before .before .before .before .before .before .before .before .before in
+    let p = pushing .push-outlets in let h = noting .note-heights in
+    let a = st .args in let M = st .pre .0 .1 in let R = st .pre .1 in
+    let size : length (p .last .1 .1 .0) ≡ length (a .stack .now) = p .kept .1 .1 .0 in
+    let size-levels : length (h .last .1 .0) ≡ length (a .levels .now) = h .kept .1 .0 in
+    let f = R .fits-stack in let g = R .fits-levels in (
+      (
+        a .marks .now,
+        st .pre .0 .0,
+        M,
+        ready M (a .stack .now) (p .last .1 .1 .0) (a .levels .now) (h .last .1 .0) (p .result .0) (h .ensures) (p .ensures .0)
+            (p .ensures .1) (a .order .now) (a .receivers .now) (a .wets .now),
+      ),
+      record {
+        fits-stack = omega arith;
+        fits-order = R .fits-order;
+        fits-receivers = R .fits-receivers;
+        fits-levels = omega arith;
+        fits-wets = R .fits-wets;
+      },
     )
 
 same-length : tie.Need-same-length
@@ -32,24 +50,36 @@ same-length-2 c = search needs
 same-length-3 : tie.Need-same-length-3
 same-length-3 c = search needs
 
+same-length-4 : tie.Need-same-length-4
+same-length-4 c = search needs
+
+same-length-5 : tie.Need-same-length-5
+same-length-5 c = search needs
+
 returns : tie.Need-returns
 returns c =
-    let at-climb = c .before .before .before .before .before .before in
-    let at-pushed = at-climb .before .before .before .before .before .before .before .before .before .before in
-    let st = at-pushed .before .before .before .before .before .before .before .before .before .before in
-    let pushed = at-pushed .push-outlets in
-    let climbed = at-climb .climb in
-    let hs = st .args .heights .now in
-    let ms = st .args .marks .now in
-    λ r K. walked-from (st .args .w) hs ms (lent (st .args .order .now) (st .args .receivers .now) (st .args .levels .now))
-    (lent (pushed .last .1 .1 .0) (pushed .last .1 .1 .1 .0) (pushed .last .1 .1 .1 .1 .0)) (pushed .result .0) (st .pre .1)
-    (pushed .ensures) r
-    (lent (climbed .last .1 .1 .1 .0) (climbed .last .1 .1 .1 .1 .0) (climbed .last .1 .1 .1 .1 .1 .0))
-    (climbed .ensures ms r K (begun (st .args .w) hs ms (lent (st .args .order .now) (st .args .receivers .now) (st .args .levels .now))
-    (lent (pushed .last .1 .1 .0) (pushed .last .1 .1 .1 .0) (pushed .last .1 .1 .1 .1 .0)) (pushed .result .0) (st .pre .1)
-    (pushed .ensures)))
+    let climbing = c .before .before .before .before .before .before .before .before .before .before in
+    let pushing = climbing .before .before .before .before .before .before .before .before in
+    let noting = pushing .before .before .before .before in
+    let a = noting .before .before .before .before .before .before .before .before .before .before .args in
+    let p = pushing .push-outlets in let h = noting .note-heights in
+    λ r M.
+    walked-from M (a .stack .now) (p .last .1 .1 .0) (a .levels .now) (h .last .1 .0) (p .result .0) (h .ensures) (p .ensures .0)
+    (p .ensures .1)
+    (climbing .climb .ensures (a .marks .now) r M
+    (ready M (a .stack .now) (p .last .1 .1 .0) (a .levels .now) (h .last .1 .0) (p .result .0) (h .ensures) (p .ensures .0)
+    (p .ensures .1) (a .order .now) (a .receivers .now) (a .wets .now)))
 
 pub walk-links-spec : {M : Type 1} → statement M
 walk-links-spec =
     tie.close
-    (tie.spec push-outlets-requires climb-requires same-length same-length-2 same-length-3 returns)
+    (tie.spec
+    note-heights-requires
+    push-outlets-requires
+    climb-requires
+    same-length
+    same-length-2
+    same-length-3
+    same-length-4
+    same-length-5
+    returns)

@@ -1,0 +1,14 @@
+-- `basins::label_of` meets its contract. The two arms of the test.
+-- Assumes nothing.
+use borrow.Author.Tests.{eq-eqb, ne-eqb}
+use Rattle.basins.proofs.label_of.Statement.{statement}
+use Rattle.basins.proofs.label_of.Tie as tie
+
+returns : tie.Need-returns
+returns c = rw (eq-eqb _ _ (c .if1 .taken))
+
+returns-2 : tie.Need-returns-2
+returns-2 c = rw (ne-eqb _ _ (c .if1 .left))
+
+pub label-of-spec : {M : Type 1} → statement M
+label-of-spec = tie.close (tie.spec returns returns-2)

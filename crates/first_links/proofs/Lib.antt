@@ -1,0 +1,3 @@
+pub mod FlatPasses
+pub mod Joined
+pub mod FromWeights

@@ -1,0 +1,43 @@
+-- The links of pairs (rules 5 and 6), added to masks that don't have them.
+-- Assumes nothing.
+use mathlib.Core.Bool.{Bool, cond, true, _&&_, _||_}
+use mathlib.Core.List.{List}
+use mathlib.Core.Path.{_≡_}
+use Prim.Native.Nat.{ℕ, _%_, _+_, _<_, _≤_}
+use lib.Dec.{eqb}
+use lib.ListN.{length, set}
+use Rattle.lists.specs.Lists.{any, at, _∈_}
+use Rattle.pairs.specs.Pairs.{greaterOf, lesserOf, Pairs}
+use Rattle.tiles.specs.Masks.{Masks}
+use Rattle.tiles.specs.Tile.{Grid}
+
+-- the bits of a pair: of the lesser cell towards the greater, which is below it or to its right, and back
+abbrev pub lesserBit : ℕ → ℕ
+lesserBit p = cond (eqb (p % 2) 1) 8 4
+
+abbrev pub greaterBit : ℕ → ℕ
+greaterBit p = cond (eqb (p % 2) 1) 1 2
+
+-- all masks once the two bits are added
+abbrev pub addedIn : (w p : ℕ) → List ℕ → List ℕ
+addedIn w p links =
+    set (set links (lesserOf p) (at links (lesserOf p) + lesserBit p)) (greaterOf w p) (at links (greaterOf w p) + greaterBit p)
+
+-- c and d are the cells a and b, in either order
+abbrev pub areCells : (a b c d : ℕ) → Bool
+areCells a b c d = (eqb a c && eqb b d) || (eqb b c && eqb a d)
+
+-- E joins c and d, or they are the two cells of one of the pairs
+unfoldable pub withPairs : (w : ℕ) (pairs : List ℕ) → (ℕ → ℕ → Bool) → ℕ → ℕ → Bool
+withPairs w pairs E c d = E c d || any (λ p. areCells (lesserOf p) (greaterOf w p) c d) pairs
+
+-- pairs of neighbours, no two of the same cells, and masks that say E, which goes both ways and joins none of the pairs
+pub record Addable (w n : ℕ) (E : ℕ → ℕ → Bool) (pairs links : List ℕ) : Type 0 where
+  pub grid : Grid w n
+  pub room : n ≤ length links
+  pub neighbours : Pairs w n pairs
+  pub both-ways : (c d : ℕ) → E c d ≡ E d c
+  pub new : (p : ℕ) → p ∈ pairs → E (lesserOf p) (greaterOf w p) ≡ true → ⊥
+  pub once : (i j : ℕ) → i < j → j < length pairs → lesserOf (at pairs i) ≡ lesserOf (at pairs j)
+      → greaterOf w (at pairs i) ≡ greaterOf w (at pairs j) → ⊥
+  pub masks : Masks w n E links

@@ -1,0 +1,78 @@
+-- A pair's bit in its cell's flag: what `kept` gives, what adding the bits of one side leaves, and how great flags are.
+-- Assumes nothing.
+use mathlib.Core.Bool.{Bool, cond, false, not, true, _&&_}
+use mathlib.Core.List.{List}
+use mathlib.Core.Logic.{inl, inr, _⊎_}
+use mathlib.Core.Path.{ap, refl, sym, _∙_, _≡_}
+use Prim.Native.Nat.{ℕ, _+_, _-_, _<_, _≤_}
+use native.Mathlib.Nat.{add-zero}
+use native.Mathlib.Omega.{arith}
+use lib.Dec.{eqb}
+use borrow.Author.Tests.{le-ltb, lt-ltb}
+use Rattle.lists.proofs.Tests.{lt-or-ge}
+use Rattle.lists.specs.Lists.{at}
+use Rattle.lists.specs.Stores.{Puts}
+use Rattle.squares.specs.declared.Side.{Side}
+use Rattle.squares.specs.Squares.{flag, keeps, keptBy}
+
+bit-by : (t : Bool) (bit : ℕ) → cond t bit 0 ≤ bit
+bit-by true bit = omega arith
+bit-by false bit = omega arith
+
+pub bit-most : (a b : ℕ) → cond (eqb a b) 1 0 ≤ 1
+bit-most a b = bit-by (eqb a b) 1
+
+-- nothing speaks against a pair, or something does
+none-against : (p q r : Bool) (f : ℕ) → cond p 1 0 + cond q 1 0 + cond r 1 0 ≡ 0 → cond (not p && (not q && not r)) f 0 ≡ f
+none-against false false false f e = refl
+none-against false false true f e = absurd (omega arith)
+none-against false true false f e = absurd (omega arith)
+none-against false true true f e = absurd (omega arith)
+none-against true false false f e = absurd (omega arith)
+none-against true false true f e = absurd (omega arith)
+none-against true true false f e = absurd (omega arith)
+none-against true true true f e = absurd (omega arith)
+
+some-against : (p q r : Bool) (f : ℕ) → (cond p 1 0 + cond q 1 0 + cond r 1 0 ≡ 0 → ⊥) → cond (not p && (not q && not r)) f 0 ≡ 0
+some-against false false false f n = absurd (n refl)
+some-against false false true f n = refl
+some-against false true false f n = refl
+some-against false true true f n = refl
+some-against true q r f n = refl
+
+module _ (a b s x t y f : ℕ) where
+  pub kept-flag : cond (eqb a b) 1 0 + cond (eqb s x) 1 0 + cond (eqb t y) 1 0 ≡ 0 → f ≡ cond (keptBy a b s x t y) f 0
+  kept-flag e = sym (none-against (eqb a b) (eqb s x) (eqb t y) f e)
+
+  pub lost-flag : (cond (eqb a b) 1 0 + cond (eqb s x) 1 0 + cond (eqb t y) 1 0 ≡ 0 → ⊥) → 0 ≡ cond (keptBy a b s x t y) f 0
+  lost-flag n = sym (some-against (eqb a b) (eqb s x) (eqb t y) f n)
+
+module _ (S : Side) (n : ℕ) (labels : List ℕ) where
+  module _ (squares : ℕ → ℕ) (c : ℕ) where
+    pub flag-in : c + S .on < n
+        → cond (keptBy (at labels c) (at labels (c + S .on)) (squares (c + 64)) (S .here) (squares (c + 64 - S .back)) (S .there))
+        (S .bit) 0
+        ≡ flag S n labels squares c
+    unfolding keeps
+    flag-in h = rw (lt-ltb (c + S .on) n h)
+
+    flag-out : n ≤ c + S .on → flag S n labels squares c ≡ 0
+    unfolding keeps
+    flag-out h = rw (le-ltb (c + S .on) n h)
+
+    pub flag-most : flag S n labels squares c ≤ S .bit
+    flag-most = bit-by (keeps S n labels squares c) (S .bit)
+
+    -- past the last cell that has such a pair nothing was added
+    pub flag-added : {old new : List ℕ} → Puts (λ i. at old i + flag S n labels squares i) 0 (n - S .on) old new
+        → at new c ≡ at old c + flag S n labels squares c
+    flag-added {old} {new} P = go (lt-or-ge c (n - S .on))
+      where
+        go : (c < n - S .on) ⊎ (n - S .on ≤ c) → at new c ≡ at old c + flag S n labels squares c
+        go (inl l) = P .inside c (omega arith) l
+        go (inr l) = P .outside c (inr l) ∙ sym (add-zero (at old c)) ∙ ap (λ (i : ℕ). at old c + i) (sym (flag-out (omega arith)))
+
+  -- flags ask the squares only of the margin and the tile
+  pub flag-same : (a b : ℕ → ℕ) → ((i : ℕ) → i < n + 64 → a i ≡ b i) → (c : ℕ) → c < n → flag S n labels a c ≡ flag S n labels b c
+  unfolding keeps
+  flag-same a b same c h = rw (same (c + 64) (omega arith), same (c + 64 - S .back) (omega arith))

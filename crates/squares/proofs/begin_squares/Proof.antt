@@ -1,0 +1,77 @@
+-- `squares::begin_squares` meets its contract.
+-- After c turns the first c entries are the squares that begin there.
+-- Assumes nothing.
+use mathlib.Core.Path.{refl, _≡_}
+use Prim.Native.Nat.{_+_, _-_, _≤_}
+use native.Mathlib.Omega.{arith}
+use lib.ListN.{length, length-set}
+use borrow.Author.Needs.{needs}
+use Rattle.lists.proofs.Puts.{puts-next, puts-none, puts-to}
+use Rattle.lists.specs.Stores.{Puts}
+use Rattle.squares.specs.Squares.{greatestSide}
+use Rattle.squares.proofs.begin_squares.Statement.{statement}
+use Rattle.squares.proofs.begin_squares.Tie as tie
+
+abbrev Inv-loop : tie.InvT-loop
+Inv-loop w heights labels sq₀ c₀ sq c =
+    (length sq ≡ length sq₀) × (c ≤ length heights - (w + 1)) × Puts (greatestSide w heights labels) 0 c sq₀ sq
+
+abbrev μ-loop : tie.MeasureT-loop
+μ-loop w heights labels sq₀ c₀ sq c = length heights - c
+
+loop-holds : tie.Need-loop-holds Inv-loop μ-loop
+loop-holds c = (refl, omega arith, puts-none _ 0 0 _ refl)
+
+add-loop : tie.Need-add-loop Inv-loop μ-loop
+add-loop c = search needs
+
+add-loop-2 : tie.Need-add-loop-2 Inv-loop μ-loop
+add-loop-2 c = search needs
+
+square-requires : tie.Need-square-requires Inv-loop μ-loop
+square-requires c κs = search needs
+
+slice-write-sq : tie.Need-slice-write-sq Inv-loop μ-loop
+slice-write-sq c = search needs
+
+add-c : tie.Need-add-c Inv-loop μ-loop
+add-c c = search needs
+
+loop-less : tie.Need-loop-less Inv-loop μ-loop
+loop-less c = search needs
+
+loop-again : tie.Need-loop-again Inv-loop μ-loop
+loop-again c =
+    let lp = c .before .before in
+    let a = lp .before .before .before .before .args in (
+      simp length-set (lp .loop .inv .0),
+      omega arith,
+      puts-next (greatestSide (a .w) (a .heights .now) (a .labels .now)) (c .square .result) (lp .loop .inv .2) (omega arith)
+          (omega arith) (c .square .ensures),
+    )
+
+same-length : tie.Need-same-length Inv-loop μ-loop
+same-length c = c .before .loop .inv .0
+
+returns : tie.Need-returns Inv-loop μ-loop
+returns c =
+    let lp = c .before in
+    let a = lp .before .before .before .before .args in
+    puts-to (greatestSide (a .w) (a .heights .now) (a .labels .now)) (omega arith) (lp .loop .inv .2)
+
+pub begin-squares-spec : {M : Type 1} → statement M
+begin-squares-spec =
+    tie.close
+    (tie.spec
+    Inv-loop
+    μ-loop
+    loop-holds
+    add-loop
+    add-loop-2
+    square-requires
+    slice-write-sq
+    add-c
+    loop-less
+    loop-again
+    same-length
+    returns)

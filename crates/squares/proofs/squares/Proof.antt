@@ -1,0 +1,28 @@
+-- `squares::squares` meets its contract.
+-- The squares of all rows but the last, the 4s that were there, and 0 where a row ends.
+-- Assumes nothing.
+use borrow.Author.Needs.{needs}
+use Rattle.squares.proofs.Listing.{squares-filled}
+use Rattle.squares.proofs.squares.Statement.{statement}
+use Rattle.squares.proofs.squares.Tie as tie
+
+begin-squares-requires : tie.Need-begin-squares-requires
+begin-squares-requires c κs = search needs
+
+end-rows-requires : tie.Need-end-rows-requires
+end-rows-requires c κs = search needs
+
+same-length : tie.Need-same-length
+same-length c = search needs
+
+returns : tie.Need-returns
+returns c =
+    let ends = c .before .before in
+    let begun = ends .before .before .before .before in
+    let st = begun .before .before .before .before .before in
+    let a = st .args in
+    squares-filled (a .w) (a .heights .now) (a .labels .now) (st .pre .1 .0 .0) (st .pre .1 .0 .1) (st .pre .1 .1)
+    (begun .begin-squares .ensures) (ends .end-rows .ensures)
+
+pub squares-spec : {M : Type 1} → statement M
+squares-spec = tie.close (tie.spec begin-squares-requires end-rows-requires same-length returns)

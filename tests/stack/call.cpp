@@ -1,0 +1,94 @@
+// The stack that the console's call takes, on every tile of the standard input, which bench's program `tiles` writes.
+// Prints the greatest figure of each family and of all; the exit status is 1 if it is above the bound.
+// With --self-check the measure itself is tried, on functions that take a known number of bytes.
+// usage: call BOUND | call --self-check BOUND (in bytes)
+#include <cstdint>
+#include <cstdio>
+#include <cstdlib>
+#include <iostream>
+#include <map>
+#include <string>
+#include <vector>
+
+#include "askvimur.h"
+#include "painted.hpp"
+
+namespace {
+
+struct Tile {
+    std::string name;  // the family and a number
+    std::vector<std::uint8_t> record;
+
+    std::string family() const { return name.substr(0, name.rfind(' ')); }
+};
+
+// The next tile of the input. False at its end.
+bool read(std::istream& in, Tile& tile) {
+    std::uint8_t length[4];
+    if (!std::getline(in, tile.name)) return false;
+    if (!in.read(reinterpret_cast<char*>(length), sizeof length)) painted::give_up("half a tile");
+    tile.record.resize(askvimur_u32(length));
+    const auto rest = static_cast<std::streamsize>(tile.record.size());
+    if (!in.read(reinterpret_cast<char*>(tile.record.data()), rest)) painted::give_up("half a tile");
+    return true;
+}
+
+std::size_t bytes_of_call(const Tile& tile) {
+    static std::uint8_t network[ASKVIMUR_MAX_NETWORK_BYTES];
+    std::uint32_t answer = 0;
+    const std::size_t bytes = painted::bytes_taken(
+        [&] { answer = askvimur_network(tile.record.data(), tile.record.size(), network, sizeof network); });
+    if (askvimur_number(answer) != ASKVIMUR_ACCEPTED) painted::give_up("a tile is refused");
+    return bytes;
+}
+
+// The greatest figure, and the tile that it is from.
+struct Greatest {
+    std::size_t bytes = 0;
+    std::string tile;
+
+    void take(std::size_t more, const std::string& name) {
+        if (more > bytes) *this = {more, name};
+    }
+};
+
+Greatest measure(std::istream& in) {
+    Greatest all;
+    std::map<std::string, Greatest> families;
+    for (Tile tile; read(in, tile);) {
+        const std::size_t bytes = bytes_of_call(tile);
+        families[tile.family()].take(bytes, tile.name);
+        all.take(bytes, tile.name);
+    }
+    for (const auto& [family, greatest] : families) std::printf("%-20s%8zu bytes\n", family.c_str(), greatest.bytes);
+    return all;
+}
+
+bool above(std::size_t bytes, std::size_t bound) { return bytes > bound; }
+
+// A function that takes a little more than so many bytes.
+template <std::size_t size>
+[[gnu::noinline]] void take() {
+    std::uint8_t list[size];
+    for (volatile std::uint8_t& byte : list) byte = 0;
+}
+
+template <std::size_t size>
+bool seen_as_it_is(std::size_t bound, bool is_above) {
+    const std::size_t bytes = painted::bytes_taken([] { take<size>(); });
+    std::printf("a function with a list of %zu bytes is seen to take %zu\n", size, bytes);
+    return size <= bytes && bytes < size + 512 && above(bytes, bound) == is_above;
+}
+
+}  // namespace
+
+int main(int count, char** words) {
+    const bool self_check = count == 3 && std::string(words[1]) == "--self-check";
+    const std::size_t bound = count == 2 + self_check ? std::strtoul(words[count - 1], nullptr, 10) : 0;
+    if (bound == 0) painted::give_up("usage: call BOUND | call --self-check BOUND");
+    if (self_check) return seen_as_it_is<100 * 1024>(bound, false) && seen_as_it_is<200 * 1024>(bound, true) ? 0 : 1;
+    const Greatest greatest = measure(std::cin);
+    std::printf("the call takes at most %zu bytes (%.1f KB) of stack, on %s; the bound is %zu\n", greatest.bytes,
+                static_cast<double>(greatest.bytes) / 1024, greatest.tile.c_str(), bound);
+    return greatest.bytes == 0 || above(greatest.bytes, bound) ? 1 : 0;
+}
