@@ -1,4 +1,5 @@
--- Links as masks: for each cell a bit for each neighbour that it is linked with, 1 above, 2 to the left, 4 to the right, 8 below.
+-- Masks of a relation between neighbours: for each cell a bit for each neighbour that the relation joins it to, 1 above, 2 to the left,
+-- 4 to the right, 8 below. Where a cell's first receiver stands, its links and the cells that receive to it are such masks.
 -- Assumes nothing.
 use mathlib.Core.Bool.{Bool, cond, not, _&&_, _||_}
 use mathlib.Core.List.{List}
