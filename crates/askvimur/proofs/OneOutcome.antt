@@ -18,9 +18,11 @@ module _ (ground network : List ℕ) where
   judgement = judgeRecord (roomOf network) ground
 
   -- `record_call`: the answer, and the lent record afterwards
-  pub record-call-one : {r r′ : Judged} {x x′ : List ℕ} → (r ≡ judgement) × (x ≡ after r) → (r′ ≡ judgement) × (x′ ≡ after r′) → (r ≡ r′) × (x ≡ x′)
+  pub record-call-one : {r r′ : Judged} {x x′ : List ℕ} → (r ≡ judgement) × (x ≡ after r) → (r′ ≡ judgement) × (x′ ≡ after r′)
+      → (r ≡ r′) × (x ≡ x′)
   record-call-one a b = one-outcome after (a .0) (b .0) (a .1) (b .1)
 
   -- `askvimur_network`
-  pub c-call-one : {r r′ : ℕ} {x x′ : List ℕ} → (r ≡ answerTo judgement) × (x ≡ after judgement) → (r′ ≡ answerTo judgement) × (x′ ≡ after judgement) → (r ≡ r′) × (x ≡ x′)
+  pub c-call-one : {r r′ : ℕ} {x x′ : List ℕ} → (r ≡ answerTo judgement) × (x ≡ after judgement)
+      → (r′ ≡ answerTo judgement) × (x′ ≡ after judgement) → (r ≡ r′) × (x ≡ x′)
   c-call-one a b = (one-answer (a .0) (b .0), one-answer (a .1) (b .1))

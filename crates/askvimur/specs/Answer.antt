@@ -3,10 +3,10 @@
 use mathlib.Core.Bool.{Bool}
 use mathlib.Core.List.{List}
 use Prim.Native.Nat.{ℕ, _*_, _+_}
-use lib.Dec.{leb}
 use lib.ListN.{length}
 use Rattle.ground.specs.Judge.{refusalNumber, refusalPlace}
-use Rattle.network_record.specs.NetworkRecord.{networkRecord}
+use Rattle.ground.specs.Rooms.{roomFor}
+use Rattle.network_bytes.specs.NetworkRecord.{networkRecord}
 use Rattle.rules.specs.Ground.{Ground}
 use Rattle.rules.specs.Network.{network}
 use Rattle.ground.specs.declared.Judged.{Judged}
@@ -18,7 +18,7 @@ networkRecordOf g = networkRecord (g .width) (g .height) (network g)
 
 -- 3: a lent record of fewer than 15N + 28 bytes is too short
 abbrev pub roomOf : List ℕ → ℕ → Bool
-roomOf out n = leb (15 * n + 28) (length out)
+roomOf out = roomFor 15 28 (length out)
 
 -- the answer: the length of the record, or the refusal's number times 65,536 plus its place
 abbrev pub answerTo : Judged → ℕ

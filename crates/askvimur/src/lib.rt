@@ -3,79 +3,74 @@ ghost use mathlib.Core.Path.{_≡_};
 ghost use Prim.Native.Nat.{_*_, _+_, _≤_};
 ghost use lib.ListN.{length, take};
 ghost use Rattle.askvimur.specs.Answer.{answerTo, networkRecordOf, roomOf};
-ghost use Rattle.ground.specs.Good.{Good};
 ghost use Rattle.ground.specs.Judge.{judgeRecord, leaves, numberOf, placeOf};
 ghost use Rattle.ground.specs.Record.{groundIn, groundOfRecord};
-ghost use Rattle.lists.specs.Lent.{overwrite};
-ghost use Rattle.lists.specs.Lists.{tab};
-ghost use Rattle.record_network.specs.LinkedRecord.{LinkedRecord};
-ghost use Rattle.rules.specs.FirstWays.{basin};
-ghost use Rattle.rules.specs.Land.{land4};
+ghost use Rattle.lists.specs.Lists.{overwrite};
+ghost use Rattle.record_stages.specs.LinkedRecord.{LinkedRecord};
+ghost use Rattle.record_stages.specs.Readable.{Readable};
+ghost use Rattle.rules.specs.Network.{liftedNetworkOf};
 use ground::Judged;
 use ground::Room;
-use network_record::write_network;
-use record_network::link_record;
-use record_network::walk_record;
+use network_bytes::write_network;
+use record_stages::link_record;
+use record_stages::walk_record;
 
 // The network record of a ground record whose cells are linked. Work space: 52 KB, taken only once the cells are linked.
 fn write_linked(
     bytes: &[u8],
     width: u16,
     height: u16,
-    raised: &[u32],
+    lifted: &[u32],
     basins: &[u16],
     links: &[u8],
     network: &mut [u8],
 )
-    requires { ⌜ Good (groundIn (now bytes) width height) × (length (now bytes) ≡ 7 * (height * width) + 16) ⌝ }
-    requires { ⌜ LinkedRecord (now bytes) width height (now raised) (now links) × (15 * (height * width) + 28 ≤ length (now network)) ⌝ }
-    requires { ⌜
-        take (height * width) (now basins) ≡ tab (height * width) (basin (land4 (groundIn (now bytes) width height)))
-        ⌝ }
+    requires { ⌜ Readable (now bytes) width height ⌝ }
+    requires { ⌜ LinkedRecord (now bytes) width height (now lifted) (now links) × (15 * (height * width) + 28 ≤ length (now network)) ⌝ }
+    requires { ⌜ take (height * width) (now basins) ≡ liftedNetworkOf (groundIn (now bytes) width height) .basins ⌝ }
     ensures { λ _. ⌜ now (network .exit) ≡ overwrite (networkRecordOf (groundIn (now (bytes .entry)) width height)) (now (network .entry)) ⌝ }
 {
-    let n = ground::cells(width, height);
     let mut receivers = [0u16; 4096];
     let mut order = [0u16; 4096];
     let mut levels = [0u32; 4096];
-    let mut drained = [0u32; 4096];
+    let mut drainage = [0u32; 4096];
     let mut wet = [0u8; 4096];
     walk_record(
         bytes,
         width,
         height,
-        raised,
+        lifted,
         links,
         &mut receivers,
         &mut order,
         &mut levels,
-        &mut drained,
+        &mut drainage,
         &mut wet,
     );
     write_network(
         width,
         height,
-        &receivers[..n],
-        &basins[..n],
-        &order[..n],
-        &levels[..n],
-        &drained[..n],
-        &wet[..n],
+        &receivers,
+        basins,
+        &order,
+        &levels,
+        &drainage,
+        &wet,
         network,
     );
 }
 
 // The network record of an accepted ground record. Work space: 28 KB, and that of linking or of writing.
-fn write_record(bytes: &[u8], width: u16, height: u16, network: &mut [u8])
-    requires { ⌜ Good (groundIn (now bytes) width height) × (length (now bytes) ≡ 7 * (height * width) + 16) ⌝ }
+fn write_accepted(bytes: &[u8], width: u16, height: u16, network: &mut [u8])
+    requires { ⌜ Readable (now bytes) width height ⌝ }
     requires { ⌜ 15 * (height * width) + 28 ≤ length (now network) ⌝ }
     ensures { λ _. ⌜ now (network .exit) ≡ overwrite (networkRecordOf (groundIn (now (bytes .entry)) width height)) (now (network .entry)) ⌝ }
 {
-    let mut raised = [0u32; 4096];
+    let mut lifted = [0u32; 4096];
     let mut basins = [0u16; 4096];
     let mut links = [0u8; 4224];
-    link_record(bytes, width, height, &mut raised, &mut basins, &mut links);
-    write_linked(bytes, width, height, &raised, &basins, &links, network);
+    link_record(bytes, width, height, &mut lifted, &mut basins, &mut links);
+    write_linked(bytes, width, height, &lifted, &basins, &links, network);
 }
 
 // The answer to a refused record: the number times 65,536, plus the place.
@@ -89,7 +84,7 @@ fn refusal_answer(judged: Judged) -> u32
 
 // The answer to an accepted one: the length of its network record.
 fn length_answer(width: u16, height: u16) -> u32
-    requires { ⌜ (width ≤ 64) × (height ≤ 64) ⌝ }
+    requires { ⌜ height * width ≤ 4096 ⌝ }
     ensures { λ r. ⌜ r ≡ 15 * (height * width) + 28 ⌝ }
 {
     (15 * ground::cells(width, height) + 28) as u32
@@ -111,7 +106,7 @@ pub fn record_call(ground: &[u8], network: &mut [u8]) -> Judged
     match judged {
         Judged::Refused(why) => Judged::Refused(why),
         Judged::Accepted(width, height) => {
-            write_record(ground, width, height, network);
+            write_accepted(ground, width, height, network);
             Judged::Accepted(width, height)
         }
     }

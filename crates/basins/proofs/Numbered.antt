@@ -10,11 +10,13 @@ use lib.Dec.{eqb}
 use lib.ListN.{length, length-append}
 use Rattle.basins.specs.Jumps.{FirstReceivers, oneIf, singularBelow, Within}
 use Rattle.basins.specs.Labels.{labelBy, Marked}
-use Rattle.lists.proofs.Entries.{filled-again, filled-at, filled-same}
-use Rattle.lists.proofs.Ranges.{keep-append, keep-same, mem-upto, range-split}
+use Rattle.lists.proofs.Filled.{filled-again, filled-at, filled-same}
+use Rattle.lists.proofs.Keep.{keep-append, keep-same}
+use Rattle.lists.proofs.Range.{range-split, upto-below}
 use Rattle.lists.specs.Lists.{at, filled, keep, range, upto, _∈_}
 use Rattle.rules.proofs.FirstReceivers.{singularOf-below}
 use Rattle.rules.specs.FirstWays.{basin, firstReceiver, singular, singularOf}
+use Rattle.rules.specs.Ground.{isOutlet}
 use Rattle.rules.specs.Land.{Land}
 use Rattle.rules.specs.NodeLabels.{labelOf}
 
@@ -52,7 +54,7 @@ module _ (L : Land) (n : ℕ) (entries : List ℕ) (F : FirstReceivers L n entri
       ∙ sym (rw (F .whole c h))
     where
       same : (x : ℕ) → x ∈ upto (singularOf L c) → eqb (at entries x) x ≡ L .solid x && eqb (firstReceiver L x) x
-      same x m = let l : x < n = lt-trans (mem-upto m) (singular-in c h) in rw (F .whole x l, F .firsts x l)
+      same x m = let l : x < n = lt-trans (upto-below m) (singular-in c h) in rw (F .whole x l, F .firsts x l)
 
   pub singular-within : (q : List ℕ) → q ≡ filled (singularOf L) n entries → Within n q
   singular-within q e c h =
@@ -77,15 +79,15 @@ module _ (L : Land) (n : ℕ) (entries : List ℕ) (F : FirstReceivers L n entri
 
   -- and labelled
   pub labelled : (marks numbers q out old labels : List ℕ) → Marked L n marks → numbers ≡ filled (singularBelow entries) n old
-      → q ≡ filled (singularOf L) n entries → out ≡ filled (λ c. labelBy n (at marks (at q c)) (at numbers (at q c))) n labels
+      → q ≡ filled (singularOf L) n entries → out ≡ filled (λ c. labelBy n (isOutlet marks (at q c)) (at numbers (at q c))) n labels
       → out ≡ filled (labelOf L) n labels
   unfolding labelOf
   labelled marks numbers q out old labels M a b e =
-      e ∙ filled-same (λ c. labelBy n (at marks (at q c)) (at numbers (at q c))) (labelOf L) n labels found
+      e ∙ filled-same (λ c. labelBy n (isOutlet marks (at q c)) (at numbers (at q c))) (labelOf L) n labels found
     where
-      found : (c : ℕ) → c < n → labelBy n (at marks (at q c)) (at numbers (at q c)) ≡ labelOf L c
+      found : (c : ℕ) → c < n → labelBy n (isOutlet marks (at q c)) (at numbers (at q c)) ≡ labelOf L c
       found c h =
-          ap (λ (d : ℕ). labelBy n (at marks d) (at numbers (at q c))) (cell-found q b c h)
+          ap (λ (d : ℕ). labelBy n (isOutlet marks d) (at numbers (at q c))) (cell-found q b c h)
           ∙ ap (λ (t : Bool). cond t n (at numbers (at q c))) (sym (M (singularOf L c) (singular-in c h)))
           ∙ ap (λ (k : ℕ). cond (L .outlet (singularOf L c)) n k) (number-found numbers q old a b c h)
           ∙ ap (λ (k : ℕ). cond (L .outlet (singularOf L c)) k (basin L c)) (sym (F .cells))

@@ -5,7 +5,6 @@ use mathlib.Core.List.{List}
 use mathlib.Core.Logic.{inl, inr, _⊎_}
 use mathlib.Core.Path.{ap, refl, subst, sym, _∙_, _≡_}
 use Prim.Native.Nat.{suc, zero, ℕ, _+_, _<_, _≤_}
-use native.Mathlib.Nat.{suc-add, zero-add}
 use native.Mathlib.Numerals.{add-one}
 use native.Mathlib.Omega.{arith}
 use lib.Dec.{eqb}
@@ -13,12 +12,9 @@ use lib.ListN.{length, length-set, set}
 use lib.Seq.{getD-set-other, getD-set-same, set-getD}
 use borrow.Author.Tests.{eqb-true}
 use Rattle.basins.specs.Jumps.{anyMoved, jumped, movedOn, Within}
+use Rattle.lists.proofs.Repeat.{repeat-add}
 use Rattle.lists.proofs.Tests.{eq-or-ne, is, isnt, known, Known}
 use Rattle.lists.specs.Lists.{at, repeat}
-
-pub repeat-add : (f : ℕ → ℕ) (a b c : ℕ) → repeat (a + b) f c ≡ repeat b f (repeat a f c)
-repeat-add f zero b c = ap (λ (k : ℕ). repeat k f c) (zero-add b)
-repeat-add f (suc a) b c = ap (λ (k : ℕ). repeat k f c) (suc-add a b) ∙ repeat-add f a b (f c)
 
 -- c's entry is at least m steps of f from c
 abbrev pub Ahead : (ℕ → ℕ) → ℕ → List ℕ → ℕ → Type 0

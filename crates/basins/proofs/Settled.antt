@@ -7,10 +7,10 @@ use mathlib.Core.Path.{ap, refl, sym, _∙_, _≡_}
 use Prim.Native.Nat.{suc, zero, ℕ, _+_, _-_, _<_, _≤_}
 use native.Mathlib.Omega.{arith}
 use lib.ListN.{length}
-use Rattle.basins.proofs.Rounds.{Leads, repeat-add, Turned, turned}
+use Rattle.basins.proofs.Rounds.{Leads, Turned, turned}
 use Rattle.basins.specs.Jumps.{anyMoved, FirstReceivers, jumped, Within}
-use Rattle.lists.proofs.Entries.{filled-by}
-use Rattle.lists.proofs.Repeats.{repeat-fixed}
+use Rattle.lists.proofs.Filled.{filled-by}
+use Rattle.lists.proofs.Repeat.{repeat-add, repeat-fixed}
 use Rattle.lists.specs.Lists.{at, filled, repeat}
 use Rattle.rules.proofs.FirstReceivers.{Falls, first-below, first-falls, rank, rank-falls, singularOf-first, singularOf-self}
 use Rattle.rules.proofs.FirstReceivers.{singularOf-singular}

@@ -8,10 +8,12 @@ ghost use Rattle.basins.specs.Jumps.{anyMoved, FirstReceivers, jumped, m
 ghost use Rattle.basins.specs.Labels.{labelBy, Marked};
 ghost use Rattle.lists.specs.Lists.{at, filled};
 ghost use Rattle.rules.specs.FirstWays.{basin, singularOf};
+ghost use Rattle.rules.specs.Ground.{isOutlet};
 ghost use Rattle.rules.specs.Land.{Land};
 ghost use Rattle.rules.specs.NodeLabels.{labelOf};
 use kinds::Basin;
 use kinds::Cell;
+use rules::is_outlet;
 
 // Some entry has moved: one before, or this one from one cell to another.
 fn has_moved(before: bool, from: Cell, to: Cell) -> bool
@@ -38,7 +40,7 @@ fn jump(entries: &mut [u16], n: usize) -> bool
 }
 
 // From first receivers to the singular cells that they lead to, in place. After each round entries lead twice as far.
-pub fn singular_cells(entries: &mut [u16], n: usize)
+fn singular_cells(entries: &mut [u16], n: usize)
     requires { ⌜ ((L : Land) × FirstReceivers L n (now entries)) ⌝ }
     ensures { λ _. ⌜
         ((L : Land) → FirstReceivers L n (now (entries .entry)) → now (entries .exit) ≡ filled (singularOf L) n (now (entries .entry)))
@@ -80,11 +82,11 @@ fn number_basins(receivers: &[u16], n: usize, numbers: &mut [u16])
     }
 }
 
-// The label of a cell, by the mark and the basin's number of its singular cell: all outlet basins have one, the count of cells.
-fn label_of(all: u16, mark: u8, number: Basin) -> u16
-    ensures { λ r. ⌜ r ≡ labelBy all mark (number .0) ⌝ }
+// The label of a cell, by its singular cell: all outlet basins have one, the count of cells, and any other has its basin's number.
+fn label_of(all: u16, outlet: bool, number: Basin) -> u16
+    ensures { λ r. ⌜ r ≡ labelBy all outlet (number .0) ⌝ }
 {
-    if mark == 1 { all } else { number.0 }
+    if outlet { all } else { number.0 }
 }
 
 // Each entry, a cell, is replaced by the number that this cell has in a list; and each cell gets its label.
@@ -96,7 +98,7 @@ fn look_up(numbers: &[u16], marks: &[u8], n: usize, entries: &mut [u16], labels:
         ⌝ }
     ensures { λ _. ⌜
         now (labels .exit)
-        ≡ filled (λ c. labelBy n (at (now (marks .entry)) (at (now (entries .entry)) c)) (at (now (numbers .entry)) (at (now (entries .entry)) c)))
+        ≡ filled (λ c. labelBy n (isOutlet (now (marks .entry)) (at (now (entries .entry)) c)) (at (now (numbers .entry)) (at (now (entries .entry)) c)))
         n (now (labels .entry))
         ⌝ }
 {
@@ -106,7 +108,7 @@ fn look_up(numbers: &[u16], marks: &[u8], n: usize, entries: &mut [u16], labels:
         let d = entries[c] as usize;
         let number = numbers[d];
         entries[c] = number;
-        labels[c] = label_of(all, marks[d], Basin(number));
+        labels[c] = label_of(all, is_outlet(marks[d]), Basin(number));
         c += 1;
     }
 }

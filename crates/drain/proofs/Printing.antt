@@ -1,50 +1,63 @@
--- The network that stands in the first N entries of the lists can be printed, and its text is that of the ground.
+-- A network that stands at the start of longer lists can be printed, and its text is that of the ground.
 -- Assumes nothing.
-use mathlib.Core.List.{[], List, map}
-use mathlib.Core.Path.{ap, refl, _∙_, _≡_}
+use mathlib.Core.List.{List, map}
+use mathlib.Core.Path.{ap, refl, subst, sym, _∙_, _≡_}
 use Prim.Native.Nat.{ℕ, _≤_}
-use lib.ListN.{length}
-use Rattle.drain.specs.Standing.{Standing}
+use native.Mathlib.Omega.{arith}
+use lib.ListN.{length, take}
+use lib.Seq.{take-all}
 use Rattle.ground.specs.Good.{Good}
-use Rattle.lists.proofs.Fill.{length-tab}
-use Rattle.lists.specs.Lists.{filled, tab}
-use Rattle.network.proofs.Networks.{drains, levels-droppable}
-use Rattle.network.proofs.Taken.{basins-front, levels-are-dropped, walked-taken}
-use Rattle.rules.specs.Carving.{receivers}
-use Rattle.rules.specs.FirstWays.{basin}
+use Rattle.network.proofs.Networks.{levels-droppable, network-full}
+use Rattle.rules.proofs.SixLists.{take-holds}
 use Rattle.rules.specs.Ground.{cellsOf, dropped, Ground}
-use Rattle.rules.specs.Land.{land4}
-use Rattle.rules.specs.Network.{drainage, level, network, networkOf}
-use Rattle.stages.specs.Worked.{Flow, Walked}
+use Rattle.rules.specs.Network.{liftedNetworkOf, network, networkOf}
 use Rattle.text.specs.Text.{groundText, tileText}
 use Rattle.text.specs.Writing.{mostText, Printable}
 
-module _ (g : Ground) (G : Good g) where
-  -- what the walk and drainage leave stands; basins are not printed, so that any list of them will do
-  pub standing : {f′ : Flow} {d : List ℕ} (f : Flow) (drained : List ℕ) → Walked (land4 g) f f′
-      → d ≡ filled (drainage (land4 g) (g .water) (receivers (land4 g))) (cellsOf g) drained
-      → Standing g (f′ .receiver-list) (f′ .level-list) d
-  standing f drained W e =
-      let N = cellsOf g in
-      let t = walked-taken g G f drained (filled (basin (land4 g)) N []) N refl W e (basins-front g G [] N refl refl) in
-      record { receivers-stand = t .receivers-taken; levels-stand = t .levels-taken; drainage-stand = t .drainage-taken }
+-- the first entries of a list, and that it has as many
+record First (n : ℕ) (l first : List ℕ) : Type 0 where
+  taken : take n l ≡ first
+  holds : n ≤ length l
 
-  module _ {r l d marks water : List ℕ} (er : r ≡ receivers (land4 g)) (el : l ≡ tab (cellsOf g) (level (land4 g) (receivers (land4 g))))
-      (ed : d ≡ tab (cellsOf g) (drainage (land4 g) (g .water) (receivers (land4 g)))) (m : marks ≡ g .marks) (v : water ≡ g .water) where
-    pub printable : {text : List ℕ} → mostText ≤ length text → Printable (g .width) (g .height) r l d marks water text
-    printable room =
-        record {
-          narrow = G .narrow;
-          low = G .low;
-          receivers-full = ap length er ∙ drains g G .full;
-          levels-full = ap length el ∙ length-tab (level (land4 g) (receivers (land4 g))) (cellsOf g);
-          drainage-full = ap length ed ∙ length-tab (drainage (land4 g) (g .water) (receivers (land4 g))) (cellsOf g);
-          marks-full = ap length m ∙ G .marks-full;
-          water-full = ap length v ∙ G .water-full;
-          levels-lifted = levels-droppable g G el;
-          room = room;
-        }
+first : (n k : ℕ) (l : List ℕ) {new : List ℕ} → n ≡ k → take k l ≡ new → length new ≡ k → First n l new
+first n k l {new} z e f =
+    let t : take n l ≡ new = subst (λ (i : ℕ). take i l ≡ new) (sym z) e in
+    record { taken = t; holds = take-holds n l t (f ∙ sym z) }
 
-    pub text-is : tileText (g .width) (g .height) r (map dropped l) d marks water ≡ groundText g
-    unfolding groundText network networkOf
-    text-is = rw (levels-are-dropped g G el, er, ed, m, v)
+-- receivers, levels and drainage of a ground stand at the start of lists, and so do its marks and its water
+module _ (g : Ground) (G : Good g) (n : ℕ) (z : n ≡ cellsOf g) (r l d marks water : List ℕ)
+    (er : take (cellsOf g) r ≡ liftedNetworkOf g .receivers) (el : take (cellsOf g) l ≡ liftedNetworkOf g .levels)
+    (ed : take (cellsOf g) d ≡ liftedNetworkOf g .drainage) (em : marks ≡ g .marks) (ew : take n water ≡ g .water) where
+  receivers : First n r (liftedNetworkOf g .receivers)
+  receivers = first n (cellsOf g) r z er (network-full g G .receivers-full)
+
+  levels : First n l (liftedNetworkOf g .levels)
+  levels = first n (cellsOf g) l z el (network-full g G .levels-full)
+
+  drainage : First n d (liftedNetworkOf g .drainage)
+  drainage = first n (cellsOf g) d z ed (network-full g G .drainage-full)
+
+  outlets : First n marks (g .marks)
+  outlets = let f = ap length em ∙ G .marks-full in first n n marks refl (take-all n marks (omega arith) ∙ em) (G .marks-full ∙ sym z)
+
+  rain : First n water (g .water)
+  rain = first n n water refl ew (G .water-full ∙ sym z)
+
+  pub printable : {text : List ℕ} → mostText ≤ length text → Printable (g .width) (g .height) n r l d marks water text
+  printable room =
+      record {
+        narrow = G .narrow;
+        low = G .low;
+        cells = z;
+        receivers-hold = receivers .holds;
+        levels-hold = levels .holds;
+        drainage-holds = drainage .holds;
+        marks-hold = outlets .holds;
+        water-holds = rain .holds;
+        levels-lifted = levels-droppable g G (levels .taken);
+        room = room;
+      }
+
+  pub text-is : tileText (g .width) (g .height) (take n r) (map dropped (take n l)) (take n d) (take n marks) (take n water) ≡ groundText g
+  unfolding groundText network networkOf
+  text-is = rw (receivers .taken, levels .taken, drainage .taken, outlets .taken, rain .taken)

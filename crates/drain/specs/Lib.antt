@@ -1,2 +1,1 @@
 pub mod Drain
-pub mod Standing

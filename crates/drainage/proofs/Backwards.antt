@@ -7,15 +7,15 @@ use mathlib.Core.Path.{ap, refl, subst, sym, _∙_, _≡_}
 use Prim.Native.Nat.{suc, ℕ, _*_, _+_, _-_, _<_, _≤_}
 use native.Mathlib.Omega.{arith}
 use lib.Dec.{eqb}
-use lib.IntN.{pos}
 use lib.ListN.{drop, drop-of-length-le, length, length-set, set, take, take-append-drop}
 use lib.Seq.{drop-cons, getD-set-other, getD-set-same, getD-take, split-at}
 use borrow.Author.Tests.{eq-eqb, eqb-false, eqb-true, ne-eqb}
 use Rattle.drainage.proofs.OwnReceivers.{own-outlet, receiver-cell}
 use Rattle.drainage.specs.Giving.{given, Ordered}
-use Rattle.lists.proofs.Entries.{filled-again, filled-at, filled-by, filled-same, map-same}
-use Rattle.lists.proofs.Members.{mem-keep}
-use Rattle.lists.proofs.Ranges.{mem-upto}
+use Rattle.lists.proofs.Filled.{filled-again, filled-at, filled-by, filled-same}
+use Rattle.lists.proofs.Keep.{keep-member}
+use Rattle.lists.proofs.Map.{map-same}
+use Rattle.lists.proofs.Range.{upto-below}
 use Rattle.lists.proofs.Tests.{eq-or-ne, is, isnt, Known, known}
 use Rattle.lists.specs.Lists.{at, filled, keep, sum, upto, _∈_}
 use Rattle.rules.proofs.Backward.{acc, acc-behind, acc-gives, acc-le, acc-none, acc-order, acc-other, acc-outlet, total}
@@ -32,7 +32,7 @@ drainage-same : (L : Land) (r a b : List ℕ) (c : ℕ) → ((x : ℕ) → x < L
 unfolding drainage solidCells
 drainage-same L r a b c h =
     ap sum (map-same (at a) (at b) (keep (λ d. through L r (L .cells) d c) (solidCells L))
-    (λ x m. h x (mem-upto (mem-keep (L .solid) (upto (L .cells)) (mem-keep _ (solidCells L) m .0) .0))))
+    (λ x m. h x (upto-below (keep-member (L .solid) (upto (L .cells)) (keep-member _ (solidCells L) m .0) .0))))
 
 -- after the cells' own water is written
 pub drained-own : (L : Land) (r water old own d : List ℕ) (n : ℕ) → L .cells ≡ n → own ≡ filled (at water) n old
@@ -102,7 +102,7 @@ module _ (L : Land) (r : List ℕ) (n : ℕ) (ordered receivers : List ℕ) (G :
         let e = full in let f : suc (i - 1) ≡ i = omega arith in
         drop-cons O (i - 1) 0 (omega arith) ∙ ap (λ (m : ℕ). at O (i - 1) ∷ drop m O) f ∙ ap (λ (z : ℕ). z ∷ drop i O) (sym c-is)
 
-    pub cell-on : c < n
+    cell-on : c < n
     cell-on =
         let h = order-mem L r D c (subst (λ (l : List ℕ). c ∈ l) (sym split) (in-right (take (i - 1) O) (in-head refl))) .0 in
         let q = G .cells in
@@ -111,7 +111,7 @@ module _ (L : Land) (r : List ℕ) (n : ℕ) (ordered receivers : List ℕ) (G :
     to-is : to ≡ at r c
     to-is = G .receivers-are c cell-on
 
-    pub receiver-on : to < n
+    receiver-on : to < n
     receiver-on = let a = receiver-cell L r D (runs c cell-on .1) in let b = to-is in let q = G .cells in omega arith
 
     c-has : at d c ≡ total L r D water c
@@ -133,7 +133,7 @@ module _ (L : Land) (r : List ℕ) (n : ℕ) (ordered receivers : List ℕ) (G :
         ∙ ap (acc L r D water (c ∷ drop i O)) (sym to-is) ∙ ap (λ (S : List ℕ). acc L r D water S to) (sym behind)
 
     -- no sum is above all the water
-    pub sum-fits : ((x : ℕ) → x < n → at old x ≤ 65535) → (to ≡ c → ⊥) → at d to + at d c ≤ 268431360
+    sum-fits : ((x : ℕ) → x < n → at old x ≤ 65535) → (to ≡ c → ⊥) → at d to + at d c ≤ 268431360
     sum-fits h q =
         let a = sum-is q in
         let b : acc L r D water (drop (i - 1) O) to ≤ acc L r D water O to =
@@ -143,6 +143,10 @@ module _ (L : Land) (r : List ℕ) (n : ℕ) (ordered receivers : List ℕ) (G :
         total-le L r D water (runs to receiver-on .1) (λ x k. h x (subst (λ (z : ℕ). x < z) (G .cells) k)) in
         let g = G .cells in let s = G .few in
         omega arith
+
+    -- what the code asks for at its turn
+    pub turn-fits : ((x : ℕ) → x < n → at old x ≤ 65535) → (c < n) × (to < n) × ((to ≡ c → ⊥) → at d to + at d c ≤ 268431360)
+    turn-fits h = (cell-on, receiver-on, sum-fits h)
 
     -- an outlet gives to nobody
     outlet-next : to ≡ c → Given d (i - 1)

@@ -1,3 +1,3 @@
 pub mod OwnReceivers
 pub mod Backwards
-pub mod Stages
+pub mod Ordered

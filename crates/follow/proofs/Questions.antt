@@ -9,10 +9,10 @@ use lib.ListN.{length}
 use borrow.Author.Tests.{eq-eqb, le-leb}
 use Rattle.follow.proofs.Input.{asked-text}
 use Rattle.follow.specs.Follow.{asked, followText, hasList, questionOf, tracedText}
-use Rattle.lists.specs.Lent.{Below}
-use Rattle.little.proofs.Numbers.{numberAt-bytesOf, numberAt-skip}
-use Rattle.little.proofs.Sections.{length-sectionOf, numbersAt-sectionOf}
-use Rattle.little.specs.Little.{bytesOf, numberAt, numbersAt, sectionOf}
+use Rattle.lists.specs.Lists.{Below}
+use Rattle.sections.proofs.Numbers.{numberAt-bytesOf, numberAt-skip}
+use Rattle.sections.proofs.Sections.{length-sectionOf, numbersAt-sectionOf}
+use Rattle.sections.specs.LittleEndian.{bytesOf, numberAt, numbersAt, sectionOf}
 use Rattle.rules.specs.Trace.{trace}
 
 module _ (cell budget : ℕ) (r : List ℕ) where

@@ -5,7 +5,7 @@ use mathlib.Core.List.{[], List, _++_, _∷_}
 use Prim.Native.Nat.{ℕ, _%_, _-_, _/_}
 use lib.Dec.{eqb, leb}
 use lib.ListN.{length}
-use Rattle.little.specs.Little.{bytesOf, numberAt, numbersAt, sectionOf}
+use Rattle.sections.specs.LittleEndian.{bytesOf, numberAt, numbersAt, sectionOf}
 use Rattle.rules.specs.Trace.{reached, refused, stopped, trace, Traced}
 use Rattle.text.specs.Text.{decimal, line, refusedText}
 
@@ -14,8 +14,8 @@ abbrev pub questionOf : (cell budget : ℕ) → List ℕ → List ℕ
 questionOf cell budget receivers = bytesOf 4 cell ++ (bytesOf 4 budget ++ sectionOf 2 receivers)
 
 -- the bytes of the longest question: cell, budget and 4,096 receivers
-abbrev pub mostInput : ℕ
-mostInput = 8200
+abbrev pub longestQuestion : ℕ
+longestQuestion = 8200
 
 -- an input of n bytes has a list: cell and budget are there, and no half entry stands at the end
 abbrev pub hasList : ℕ → Bool

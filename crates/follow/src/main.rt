@@ -6,7 +6,7 @@ ghost use mathlib.Core.Path.{_≡_};
 ghost use Prim.Native.Nat.{_≤_};
 ghost use lib.Dec.{leb};
 ghost use lib.ListN.{length};
-ghost use Rattle.follow.specs.Follow.{asked, followText, hasList, mostInput, tracedText};
+ghost use Rattle.follow.specs.Follow.{asked, followText, hasList, longestQuestion, tracedText};
 ghost use Rattle.text.specs.Writing.{Printed};
 ghost use Rattle.trace.specs.Answer.{answerOf};
 use trace::TraceAnswer;
@@ -27,20 +27,20 @@ fn write_answer(text: &mut [u8], answer: TraceAnswer) -> usize
 
 // The answer to a question of at most 4,096 receivers.
 fn answer_to(bytes: &[u8]) -> TraceAnswer
-    requires { ⌜ (8 ≤ length (now bytes)) × (length (now bytes) ≤ mostInput) ⌝ }
+    requires { ⌜ (8 ≤ length (now bytes)) × (length (now bytes) ≤ longestQuestion) ⌝ }
     ensures { λ r. ⌜ answerOf r ≡ asked (now (bytes .entry)) ⌝ }
 {
     let n = (bytes.len() - 8) / 2;
     let mut receivers = [0u16; 4096];
-    little::read_section_u16(bytes, 8, n, &mut receivers);
-    let cell = little::read_u32(bytes, 0);
-    let budget = little::read_u32(bytes, 4);
+    sections::read_section_u16(bytes, 8, n, &mut receivers);
+    let cell = sections::read_u32(bytes, 0);
+    let budget = sections::read_u32(bytes, 4);
     trace::trace(&receivers[..n], cell, budget)
 }
 
 // Whether an input of so many bytes is a question of at most 4,096 receivers.
 fn is_question(len: usize) -> bool
-    ensures { λ r. ⌜ r ≡ (leb len mostInput && hasList len) ⌝ }
+    ensures { λ r. ⌜ r ≡ (leb len longestQuestion && hasList len) ⌝ }
 {
     len <= 8_200 && (8 <= len && len % 2 == 0)
 }

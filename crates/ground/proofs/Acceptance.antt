@@ -9,23 +9,23 @@ use lib.Dec.{eqb, leb, ltb}
 use lib.IntN.{pos}
 use lib.ListN.{getD, length}
 use borrow.Author.Tests.{eq-eqb, eqb-true, le-leb, le-ltb, leb-true, lt-ltb, ltb-false, ltb-true, not-false}
-use Rattle.ground.proofs.SizedLists.{full, Full, lists-full, size-allowed, sized}
-use Rattle.ground.specs.Good.{Good}
+use Rattle.grid.proofs.Rows.{rows-fit}
+use Rattle.ground.proofs.SizedLists.{full, lists-full, size-allowed, sized}
+use Rattle.ground.specs.Accepted.{AcceptedLists, AcceptedRecord}
+use Rattle.ground.specs.Good.{Full, Good}
 use Rattle.ground.specs.Judge.{badHeight, badMark, judge, judgeCells, judgeLists, judgeMarks, judgeOutlet, judgeRecord}
-use Rattle.ground.specs.Judge.{judgeSized, listsFull, must, outletAt, sizeAllowed}
+use Rattle.ground.specs.Judge.{judgeSized, listsFull, must, sizeAllowed}
 use Rattle.ground.specs.Record.{distancesRight, groundIn, groundOfRecord, heightIn, widthIn}
 use Rattle.heights.proofs.HeightSections.{length-heightsAt}
 use Rattle.kinds.specs.Kinds.{asCell}
-use Rattle.lists.proofs.Fill.{length-tab}
 use Rattle.lists.proofs.Find.{find-below, find-found, find-left, find-none}
-use Rattle.lists.proofs.Grid.{rows-fit}
-use Rattle.lists.proofs.Lent.{length-stretch}
+use Rattle.lists.proofs.Stretch.{stretch-length}
+use Rattle.lists.proofs.Tab.{tab-length}
 use Rattle.lists.proofs.Tests.{not-is}
-use Rattle.lists.specs.Find.{find}
-use Rattle.lists.specs.Lent.{NoneBelow}
+use Rattle.lists.specs.Find.{find, NoneBelow}
 use Rattle.lists.specs.Lists.{at}
-use Rattle.little.specs.Little.{numberAt}
-use Rattle.rules.specs.Ground.{cellsOf, Ground, heightInRange}
+use Rattle.sections.specs.LittleEndian.{numberAt}
+use Rattle.rules.specs.Ground.{cellsOf, Ground, heightInRange, isOutlet}
 use Rattle.ground.specs.declared.Judged.{Judged}
 use Rattle.ground.specs.declared.Judged.the-variants.{Accepted}
 use Rattle.ground.specs.declared.Refusal.{Refusal}
@@ -45,7 +45,7 @@ record Held (long right room : Bool) (g : Ground) : Type 0 where
   pub room-held : room ≡ true
   pub heights-held : NoneBelow (badHeight (g .heights)) (cellsOf g)
   pub marks-held : NoneBelow (badMark (g .marks)) (cellsOf g)
-  pub outlet-held : find (outletAt (g .marks)) (cellsOf g) < cellsOf g
+  pub outlet-held : find (isOutlet (g .marks)) (cellsOf g) < cellsOf g
 
 module _ (long right room : Bool) (g : Ground) where
   held : {a b : ℕ} → judge long right room g ≡ Accepted a b → Held long right room g × (a ≡ g .width) × (b ≡ g .height)
@@ -54,7 +54,7 @@ module _ (long right room : Bool) (g : Ground) where
       let n = cellsOf g in
       let h = find (badHeight (g .heights)) n in
       let m = find (badMark (g .marks)) n in
-      let o = find (outletAt (g .marks)) n in
+      let o = find (isOutlet (g .marks)) n in
       let rest = must right BadDistance (must room NoRoom (judgeCells g)) in
       let e1 = must-held (sizeAllowed (g .width) (g .height)) BadSize (must long BadLength rest) e in
       let e2 = must-held long BadLength rest (e1 .1) in
@@ -83,7 +83,7 @@ module _ (long right room : Bool) (g : Ground) where
       let n = cellsOf g in
       let h = find-none (badHeight (g .heights)) n (t .heights-held) in
       let m = find-none (badMark (g .marks)) n (t .marks-held) in
-      let o = lt-ltb (find (outletAt (g .marks)) n) n (t .outlet-held) in
+      let o = lt-ltb (find (isOutlet (g .marks)) n) n (t .outlet-held) in
       rw (t .size, t .length-held, t .distances-held, t .room-held, h, m, le-leb n n (omega arith), o)
 
 -- good grounds and the tests, both ways
@@ -91,7 +91,7 @@ held-good : {long right room : Bool} (g : Ground) → Held long right room g →
     → Good g
 held-good g t f =
     let z = sized (g .width) (g .height) (t .size) in
-    let o = find (outletAt (g .marks)) (cellsOf g) in
+    let o = find (isOutlet (g .marks)) (cellsOf g) in
     record {
       wide = z .wide;
       narrow = z .narrow;
@@ -105,7 +105,7 @@ held-good g t f =
       outlet = o;
       outlet-below = t .outlet-held;
       outlet-marked =
-          eqb-true (at (g .marks) o) 1 (find-found (outletAt (g .marks)) (cellsOf g) (t .outlet-held));
+          eqb-true (at (g .marks) o) 1 (find-found (isOutlet (g .marks)) (cellsOf g) (t .outlet-held));
     }
 
 good-held : (long right room : Bool) (g : Ground) → Good g → long ≡ true → right ≡ true → room ≡ true → Held long right room g
@@ -119,7 +119,7 @@ good-held long right room g t a b c =
       heights-held = λ k l. not-is (heightInRange (getD (g .heights) k (pos 0))) (t .heights-in-range k l);
       marks-held = λ k l. le-ltb 1 (at (g .marks) k) (t .marks-allowed k l);
       outlet-held =
-          find-below (outletAt (g .marks)) (cellsOf g) (t .outlet) (t .outlet-below) o;
+          find-below (isOutlet (g .marks)) (cellsOf g) (t .outlet) (t .outlet-below) o;
     }
 
 -- N is at most 4,096
@@ -129,17 +129,11 @@ good-few g t = rows-fit (g .height) (g .width) (t .low) (t .narrow)
 pub good-full : (g : Ground) → Good g → Full (g .heights) (g .marks) (g .water) (cellsOf g)
 good-full g t = record { heights-full = t .heights-full; marks-full = t .marks-full; water-full = t .water-full }
 
--- accepted lists: their ground is good, and the outputs have room for it
-pub record AcceptedLists (room : ℕ → Bool) (g : Ground) (w h : ℕ) : Type 0 where
-  pub good : Good g
-  pub roomy : room (cellsOf g) ≡ true
-  pub width-is : w ≡ g .width
-  pub height-is : h ≡ g .height
-
+-- accepted lists, both ways
 pub lists-accepted : (room : ℕ → Bool) (g : Ground) {w h : ℕ} → judgeLists room g ≡ Accepted w h → AcceptedLists room g w h
 unfolding judgeLists
 lists-accepted room g e =
-    let t = held (listsFull g) true (room (cellsOf g)) g e in
+    let t = held (listsFull (g .heights) (g .marks) (g .water) (cellsOf g)) true (room (cellsOf g)) g e in
     record {
       good = held-good g (t .0) (full (g .heights) (g .marks) (g .water) (cellsOf g) (t .0 .length-held));
       roomy = t .0 .room-held;
@@ -151,8 +145,9 @@ pub accept-lists : (room : ℕ → Bool) (g : Ground) → Good g → room (cells
     → judgeLists room g ≡ Accepted (g .width) (g .height)
 unfolding judgeLists
 accept-lists room g t r =
+    let long = listsFull (g .heights) (g .marks) (g .water) (cellsOf g) in
     let f = lists-full (g .heights) (g .marks) (g .water) (cellsOf g) (good-full g t) in
-    accepted (listsFull g) true (room (cellsOf g)) g (good-held (listsFull g) true (room (cellsOf g)) g t f refl r)
+    accepted long true (room (cellsOf g)) g (good-held long true (room (cellsOf g)) g t f refl r)
 
 -- the lists of a record of w by h cells have N entries
 pub record-full : (s : List ℕ) (w h : ℕ) → length s ≡ 7 * (h * w) + 16
@@ -160,19 +155,11 @@ pub record-full : (s : List ℕ) (w h : ℕ) → length s ≡ 7 * (h * w) + 16
 record-full s w h e =
     record {
       heights-full = length-heightsAt s 0 (h * w);
-      marks-full = length-stretch (4 * (h * w)) (h * w) s (omega arith);
-      water-full = length-tab (λ k. numberAt 2 s (5 * (h * w) + 2 * k)) (h * w);
+      marks-full = stretch-length (4 * (h * w)) (h * w) s (omega arith);
+      water-full = tab-length (λ k. numberAt 2 s (5 * (h * w) + 2 * k)) (h * w);
     }
 
--- an accepted record: 7N + 16 bytes with the right distances, its ground is good, and the outputs have room for it
-pub record AcceptedRecord (room : ℕ → Bool) (s : List ℕ) (w h : ℕ) : Type 0 where
-  pub good : Good (groundOfRecord s)
-  pub roomy : room (cellsOf (groundOfRecord s)) ≡ true
-  pub long : length s ≡ 7 * cellsOf (groundOfRecord s) + 16
-  pub distances : distancesRight s (cellsOf (groundOfRecord s)) ≡ true
-  pub width-is : w ≡ groundOfRecord s .width
-  pub height-is : h ≡ groundOfRecord s .height
-
+-- accepted records, both ways
 pub record-accepted : (room : ℕ → Bool) (s : List ℕ) {w h : ℕ} → judgeRecord room s ≡ Accepted w h → AcceptedRecord room s w h
 unfolding judgeRecord groundOfRecord
 record-accepted room s e =

@@ -1,24 +1,23 @@
 -- The steps of a judgement, for the code: what was found so far decides, in the table's order.
 -- Assumes nothing.
 use mathlib.Core.Bool.{Bool, false, true}
-use mathlib.Core.List.{[], List}
+use mathlib.Core.List.{[]}
 use mathlib.Core.Logic.{inl, inr, _⊎_}
 use mathlib.Core.Path.{refl, sym, _∙_, _≡_}
-use Prim.Native.Nat.{ℕ, _*_, _<_, _≤_}
+use Prim.Native.Nat.{ℕ, _<_, _≤_}
 use native.Mathlib.Omega.{arith}
 use lib.Dec.{eqb, ltb}
 use lib.ListN.{length}
 use borrow.Author.Tests.{eq-eqb, le-leb, le-ltb, lt-leb, lt-ltb, ne-eqb}
-use Rattle.ground.specs.Judge.{badHeight, badMark, judge, judgeCells, judgeLists, judgeMarks, judgeOutlet, judgeRecord}
-use Rattle.ground.specs.Judge.{outletAt, sizeAllowed}
-use Rattle.ground.specs.Record.{groundOfLists, heightIn, widthIn}
+use Rattle.ground.specs.Judge.{badHeight, badMark, judge, judgeCells, judgeMarks, judgeOutlet, sizeAllowed}
+use Rattle.ground.specs.Record.{groundOfLists}
 use Rattle.kinds.specs.Kinds.{asCell}
 use Rattle.lists.proofs.Greatest.{greatest-bounds, greatest-found, greatest-none}
 use Rattle.lists.proofs.Tests.{lt-or-ge}
 use Rattle.lists.specs.Find.{find}
 use Rattle.lists.specs.Greatest.{greatest}
 use Rattle.lists.specs.Lists.{at}
-use Rattle.rules.specs.Ground.{cellsOf, Ground}
+use Rattle.rules.specs.Ground.{cellsOf, Ground, isOutlet}
 use Rattle.ground.specs.declared.Judged.{Judged}
 use Rattle.ground.specs.declared.Judged.the-variants.{Accepted, Refused}
 use Rattle.ground.specs.declared.Refusal.the-variants.{BadDistance, BadHeight, BadLength, BadMark, BadSize, NoOutlet, NoRoom}
@@ -44,25 +43,25 @@ module _ (g : Ground) (full : length (g .marks) ≡ cellsOf g) where
   none-bad : greatest (g .marks) ≤ 1 → find (badMark (g .marks)) (cellsOf g) ≡ cellsOf g
   none-bad h = greatest-none (badMark (g .marks)) (g .marks) 1 full (λ k m. refl) h
 
-  outlets-above : greatest (g .marks) ≤ 1 → (k : ℕ) → k < cellsOf g → outletAt (g .marks) k ≡ ltb 0 (at (g .marks) k)
+  outlets-above : greatest (g .marks) ≤ 1 → (k : ℕ) → k < cellsOf g → isOutlet (g .marks) k ≡ ltb 0 (at (g .marks) k)
   outlets-above h k m = outlet-above (at (g .marks) k) (greatest-bounds (g .marks) 1 h k (rw full m))
 
   pub marks-without-outlet : greatest (g .marks) ≤ 0 → Refused NoOutlet ≡ judgeMarks g
   unfolding judgeMarks judgeOutlet
   marks-without-outlet h =
       let n = cellsOf g in
-      let o = greatest-none (outletAt (g .marks)) (g .marks) 0 full (outlets-above (omega arith)) h in
+      let o = greatest-none (isOutlet (g .marks)) (g .marks) 0 full (outlets-above (omega arith)) h in
       rw (none-bad (omega arith), o, le-leb n n (omega arith), le-ltb n n (omega arith))
 
   pub marks-good : greatest (g .marks) ≡ 1 → Accepted (g .width) (g .height) ≡ judgeMarks g
   unfolding judgeMarks judgeOutlet
   marks-good h =
       let n = cellsOf g in
-      let o = greatest-found (outletAt (g .marks)) (g .marks) 0 full (outlets-above (omega arith)) (omega arith) in
-      rw (none-bad (omega arith), le-leb n n (omega arith), lt-ltb (find (outletAt (g .marks)) n) n o)
+      let o = greatest-found (isOutlet (g .marks)) (g .marks) 0 full (outlets-above (omega arith)) (omega arith) in
+      rw (none-bad (omega arith), le-leb n n (omega arith), lt-ltb (find (isOutlet (g .marks)) n) n o)
 
 -- heights and water have no part in it
-pub marks-decide : (g : Ground) → judgeMarks (groundOfLists (g .width) (g .height) [] (g .marks) []) ≡ judgeMarks g
+marks-decide : (g : Ground) → judgeMarks (groundOfLists (g .width) (g .height) [] (g .marks) []) ≡ judgeMarks g
 unfolding judgeMarks judgeOutlet
 marks-decide g = refl
 
@@ -104,12 +103,3 @@ module _ (long right room : Bool) (g : Ground) where
     pub judged-cells : {r : Judged} → long ≡ true → right ≡ true → room ≡ true → r ≡ judgeCells g → r ≡ judge long right room g
     unfolding judge
     judged-cells b c d e = rw (a, b, c, d) e
-
--- tests of the room that agree give one judgement
-pub record-room : {p q : ℕ → Bool} (s : List ℕ) → ((n : ℕ) → p n ≡ q n) → judgeRecord p s ≡ judgeRecord q s
-unfolding judgeRecord
-record-room s f = rw (f (heightIn s * widthIn s))
-
-pub lists-room : {p q : ℕ → Bool} (g : Ground) → ((n : ℕ) → p n ≡ q n) → judgeLists p g ≡ judgeLists q g
-unfolding judgeLists
-lists-room g f = rw (f (cellsOf g))

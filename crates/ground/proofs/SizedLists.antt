@@ -8,8 +8,9 @@ use lib.Dec.{eqb, leb}
 use lib.IntN.{ℤ}
 use lib.ListN.{length}
 use borrow.Author.Tests.{eq-eqb, eqb-true, le-leb, leb-true}
-use Rattle.ground.specs.Judge.{sizeAllowed}
-use Rattle.lists.proofs.Grid.{rows-fit}
+use Rattle.grid.proofs.Rows.{rows-fit}
+use Rattle.ground.specs.Good.{Full}
+use Rattle.ground.specs.Judge.{listsFull, sizeAllowed}
 use Rattle.lists.proofs.Tests.{and-left, and-right}
 
 -- an allowed size: at most 4,096 cells
@@ -38,13 +39,8 @@ pub size-allowed : (w h : ℕ) → 1 ≤ w → w ≤ 64 → 1 ≤ h → h ≤ 64
 size-allowed w h a b c d = rw (le-leb 1 w a, le-leb w 64 b, le-leb 1 h c, le-leb h 64 d)
 
 -- lists of n entries
-pub record Full (heights : List ℤ) (marks water : List ℕ) (n : ℕ) : Type 0 where
-  pub heights-full : length heights ≡ n
-  pub marks-full : length marks ≡ n
-  pub water-full : length water ≡ n
-
 module _ (heights : List ℤ) (marks water : List ℕ) (n : ℕ) where
-  pub full : eqb (length heights) n && (eqb (length marks) n && eqb (length water) n) ≡ true → Full heights marks water n
+  pub full : listsFull heights marks water n ≡ true → Full heights marks water n
   full e =
       let a = eqb (length heights) n in
       let b = eqb (length marks) n in
@@ -56,7 +52,7 @@ module _ (heights : List ℤ) (marks water : List ℕ) (n : ℕ) where
         water-full = eqb-true (length water) n (and-right b c e1);
       }
 
-  pub lists-full : Full heights marks water n → eqb (length heights) n && (eqb (length marks) n && eqb (length water) n) ≡ true
+  pub lists-full : Full heights marks water n → listsFull heights marks water n ≡ true
   lists-full f =
       let a = eq-eqb (length heights) n (f .heights-full) in
       let b = eq-eqb (length marks) n (f .marks-full) in

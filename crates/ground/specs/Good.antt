@@ -1,12 +1,19 @@
 -- Document 01, "Ground": what every accepted ground has.
 -- Assumes nothing.
 use mathlib.Core.Bool.{true}
+use mathlib.Core.List.{List}
 use mathlib.Core.Path.{_≡_}
 use Prim.Native.Nat.{ℕ, _<_, _≤_}
-use lib.IntN.{pos}
+use lib.IntN.{pos, ℤ}
 use lib.ListN.{getD, length}
 use Rattle.lists.specs.Lists.{at}
 use Rattle.rules.specs.Ground.{cellsOf, Ground, heightInRange}
+
+-- lists with an entry for each of n cells
+pub record Full (heights : List ℤ) (marks water : List ℕ) (n : ℕ) : Type 0 where
+  pub heights-full : length heights ≡ n
+  pub marks-full : length marks ≡ n
+  pub water-full : length water ≡ n
 
 pub record Good (g : Ground) : Type 0 where
   -- width and height are 1 to 64

@@ -9,14 +9,12 @@ use lib.ListN.{getD, length}
 use Rattle.ground.specs.Record.{distancesRight, groundIn, heightIn, widthIn}
 use Rattle.kinds.specs.Kinds.{asCell}
 use Rattle.lists.specs.Find.{find}
-use Rattle.lists.specs.Lent.{overwrite}
-use Rattle.lists.specs.Lists.{at}
-use Rattle.rules.specs.Ground.{cellsOf, Ground, heightInRange}
+use Rattle.lists.specs.Lists.{at, overwrite}
+use Rattle.rules.specs.Ground.{cellsOf, Ground, heightInRange, isOutlet}
 use Rattle.ground.specs.declared.Judged.{Judged}
 use Rattle.ground.specs.declared.Judged.the-variants.{Accepted, Refused}
 use Rattle.ground.specs.declared.Refusal.{Refusal}
 use Rattle.ground.specs.declared.Refusal.the-variants.{BadDistance, BadHeight, BadLength, BadMark, BadSize, NoOutlet, NoRoom}
-use Rattle.ground.specs.declared.Room.{Room}
 use Rattle.kinds.specs.declared.Cell.{Cell}
 
 -- the number of a refusal
@@ -62,9 +60,8 @@ abbrev pub sizeAllowed : ℕ → ℕ → Bool
 sizeAllowed w h = leb 1 w && (leb w 64 && (leb 1 h && leb h 64))
 
 -- 2: every input list has N entries
-abbrev pub listsFull : Ground → Bool
-listsFull g =
-    eqb (length (g .heights)) (cellsOf g) && (eqb (length (g .marks)) (cellsOf g) && eqb (length (g .water)) (cellsOf g))
+abbrev pub listsFull : List ℤ → List ℕ → List ℕ → ℕ → Bool
+listsFull heights marks water n = eqb (length heights) n && (eqb (length marks) n && eqb (length water) n)
 
 -- 4: the height of cell k is out of range
 abbrev pub badHeight : List ℤ → ℕ → Bool
@@ -74,14 +71,10 @@ badHeight heights k = not (heightInRange (getD heights k (pos 0)))
 abbrev pub badMark : List ℕ → ℕ → Bool
 badMark marks k = ltb 1 (at marks k)
 
--- cell k is an outlet
-abbrev pub outletAt : List ℕ → ℕ → Bool
-outletAt marks k = eqb (at marks k) 1
-
 -- 6: some cell is an outlet
 unfoldable pub judgeOutlet : Ground → Judged
 judgeOutlet g =
-    must (ltb (find (outletAt (g .marks)) (cellsOf g)) (cellsOf g)) NoOutlet (Accepted (g .width) (g .height))
+    must (ltb (find (isOutlet (g .marks)) (cellsOf g)) (cellsOf g)) NoOutlet (Accepted (g .width) (g .height))
 
 -- 5, then 6
 unfoldable pub judgeMarks : Ground → Judged
@@ -103,7 +96,7 @@ judge long right room g =
 
 -- lists; only records have distances. `room n` says that the call's outputs have room for n cells
 unfoldable pub judgeLists : (ℕ → Bool) → Ground → Judged
-judgeLists room g = judge (listsFull g) true (room (cellsOf g)) g
+judgeLists room g = judge (listsFull (g .heights) (g .marks) (g .water) (cellsOf g)) true (room (cellsOf g)) g
 
 -- a record of w by h cells is 7N + 16 bytes long
 abbrev pub judgeSized : (ℕ → Bool) → List ℕ → ℕ → ℕ → Judged
@@ -112,14 +105,6 @@ judgeSized room s w h = judge (eqb (length s) (7 * (h * w) + 16)) (distancesRigh
 -- a record; one under 16 bytes is refused before its size is read
 unfoldable pub judgeRecord : (ℕ → Bool) → List ℕ → Judged
 judgeRecord room s = must (leb 16 (length s)) BadLength (judgeSized room s (widthIn s) (heightIn s))
-
--- a call with no outputs
-abbrev pub anyRoom : ℕ → Bool
-anyRoom n = true
-
--- an output of `len` entries or bytes, of which each cell takes `each`, and `fixed` are taken besides
-abbrev pub roomFor : Room → ℕ → Bool
-roomFor room n = leb (room .each * n + room .fixed) (room .len)
 
 module _ {A : Type 0} where
   -- a lent list or record afterwards: `new` at its start where accepted, and as it was where refused

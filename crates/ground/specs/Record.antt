@@ -7,8 +7,8 @@ use lib.Dec.{eqb}
 use lib.IntN.{ℤ}
 use lib.ListN.{length}
 use Rattle.heights.specs.Bits.{heightsAt, heightSection, liftedBits}
-use Rattle.lists.specs.Lent.{stretch}
-use Rattle.little.specs.Little.{bytesOf, numberAt, numbersAt, sectionOf}
+use Rattle.lists.specs.Lists.{stretch}
+use Rattle.sections.specs.LittleEndian.{bytesOf, numberAt, numbersAt, sectionOf}
 use Rattle.rules.specs.Ground.{Ground}
 
 -- the trailer: width (2), height (2), and three distances (4 each) back from its first byte to the first byte of heights, marks and

@@ -2,13 +2,14 @@
 -- Assumes nothing.
 use mathlib.Core.List.{[], List, map, _++_, _∷_}
 use mathlib.Core.Path.{refl, _≡_}
-use Prim.Native.Nat.{ℕ, _*_, _+_, _-_}
-use lib.Dec.{leb}
+use Prim.Native.Nat.{ℕ, _-_}
 use lib.IntN.{negsuc, pos, ℤ}
 use lib.ListN.{length, replicate}
 use Rattle.ground.specs.Judge.{judge, judgeCells, judgeLists, judgeMarks, judgeOutlet, judgeRecord, numberOf, placeOf}
 use Rattle.ground.specs.Record.{groundOfLists, groundOfRecord, recordOf, trailer}
+use Rattle.ground.specs.Rooms.{roomFor}
 use Rattle.kinds.specs.Kinds.{asCell}
+use Rattle.rules.specs.Samples.{groundF}
 use Rattle.rules.specs.Ground.{Ground}
 use Rattle.ground.specs.declared.Judged.{Judged}
 use Rattle.ground.specs.declared.Judged.the-variants.{Accepted, Refused}
@@ -40,15 +41,11 @@ abbrev pub computed : Sample → Result
 computed (writes g s) = aRecord (recordOf g)
 computed (reads s g) = aGround (groundOfRecord s)
 computed (judgesRecord s entries r number place) =
-    let j = judgeRecord (λ n. leb n entries) s in anAnswer j (numberOf j) (placeOf j)
+    let j = judgeRecord (roomFor 1 0 entries) s in anAnswer j (numberOf j) (placeOf j)
 computed (judgesLists g room r number place) =
-    let j = judgeLists (λ n. leb (7 * n + 16) room) g in anAnswer j (numberOf j) (placeOf j)
+    let j = judgeLists (roomFor 7 16 room) g in anAnswer j (numberOf j) (placeOf j)
 
--- sample F: 2 by 1, heights -3 and 4, the second an outlet, water 2 and 3
-abbrev groundF : Ground
-groundF = groundOfLists 2 1 (negsuc 2 ∷ pos 4 ∷ []) (0 ∷ 1 ∷ []) (2 ∷ 3 ∷ [])
-
--- its record is these bytes, with this mark in the second cell and these three distances
+-- the record of sample F is these bytes, with this mark in the second cell and these three distances
 abbrev recordWith : (heights : List ℕ) (mark : ℕ) (distances : List ℕ) → List ℕ
 recordWith heights mark distances =
     heights ++ (0x00 ∷ mark ∷ 0x02 ∷ 0x00 ∷ 0x03 ∷ 0x00 ∷ 0x02 ∷ 0x00 ∷ 0x01 ∷ 0x00 ∷ distances)
@@ -136,6 +133,6 @@ samples =
     ∷ []
 
 -- the definitions give what every sample says
-pub samples-right : map computed samples ≡ map said samples
+pub ground-samples-right : map computed samples ≡ map said samples
 unfolding recordOf trailer groundOfRecord judgeRecord judgeLists judge judgeCells judgeMarks judgeOutlet
-samples-right = refl
+ground-samples-right = refl

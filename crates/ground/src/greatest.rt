@@ -20,7 +20,10 @@ pub fn greatest_height_of_record(bytes: &[u8], n: usize) -> u32
 {
     let mut high = 0;
     for cell in 0..n {
-        high = lists::most_u32(high, heights::lift_bits(little::read_u32(bytes, 4 * cell)));
+        high = lists::most_u32(
+            high,
+            heights::lift_bits(sections::read_u32(bytes, 4 * cell)),
+        );
     }
     high
 }

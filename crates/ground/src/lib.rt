@@ -4,9 +4,11 @@ ghost use mathlib.Core.List.{[]};
 ghost use mathlib.Core.Path.{_≡_};
 ghost use Prim.Native.Nat.{_*_, _+_, _≤_};
 ghost use lib.ListN.{length};
-ghost use Rattle.ground.specs.Judge.{anyRoom, judgeCells, judgeLists, judgeMarks, judgeRecord, judgeSized};
-ghost use Rattle.ground.specs.Judge.{numberOf, placeOf, refusalNumber, refusalPlace, roomFor};
+ghost use Rattle.ground.specs.Judge.{judgeCells, judgeLists, judgeMarks, judgeRecord, judgeSized};
+ghost use Rattle.ground.specs.Judge.{numberOf, placeOf, refusalNumber, refusalPlace};
 ghost use Rattle.ground.specs.Record.{groundIn, groundOfLists};
+ghost use Rattle.ground.specs.Rooms.{anyRoom, roomFor};
+use crate::search::Sought;
 use kinds::Cell;
 
 mod greatest; // greatest.rt: the greatest height and the greatest mark, which say whether anything is wrong
@@ -110,10 +112,15 @@ fn judge_marks(marks: &[u8], width: u16, height: u16) -> Judged
 {
     let most = greatest::greatest_mark(marks);
     if most > 1 {
-        let bad = search::first_bad_mark(marks, limits::wide(width), limits::wide(height));
+        let bad = search::first_bad_in_bytes(
+            marks,
+            Sought::Mark,
+            limits::wide(width),
+            limits::wide(height),
+        );
         return Judged::Refused(Refusal::BadMark(Cell(bad as u16)));
     }
-    if most == 1 {
+    if rules::is_outlet(most) {
         Judged::Accepted(width, height)
     } else {
         Judged::Refused(Refusal::NoOutlet)
@@ -127,8 +134,9 @@ fn judge_cells_of_record(bytes: &[u8], width: u16, height: u16) -> Judged
 {
     let n = cells(width, height);
     if greatest::greatest_height_of_record(bytes, n) > 16_000_000 {
-        let bad = search::first_bad_height_of_record(
+        let bad = search::first_bad_in_bytes(
             bytes,
+            Sought::Height,
             limits::wide(width),
             limits::wide(height),
         );
@@ -146,7 +154,7 @@ fn judge_cells_of_lists(heights: &[i32], marks: &[u8], width: u16, height: u16) 
     ensures { λ r. ⌜ r ≡ judgeCells (groundOfLists width height (now (heights .entry)) (now (marks .entry)) []) ⌝ }
 {
     let n = cells(width, height);
-    let bad = search::first_bad_height_of_list(heights, limits::wide(width), limits::wide(height));
+    let bad = search::first_bad_in_list(heights, limits::wide(width), limits::wide(height));
     if bad < n {
         return Judged::Refused(Refusal::BadHeight(Cell(bad as u16)));
     }
@@ -156,7 +164,7 @@ fn judge_cells_of_lists(heights: &[i32], marks: &[u8], width: u16, height: u16) 
 // A record whose trailer names this width and height.
 fn judge_sized(bytes: &[u8], room: Room, width: u16, height: u16) -> Judged
     requires { ⌜ 16 ≤ length (now bytes) ⌝ }
-    ensures { λ r. ⌜ r ≡ judgeSized (roomFor room) (now (bytes .entry)) width height ⌝ }
+    ensures { λ r. ⌜ r ≡ judgeSized (roomFor (room .each) (room .fixed) (room .len)) (now (bytes .entry)) width height ⌝ }
 {
     if !limits::size_allowed(width, height) {
         return Judged::Refused(Refusal::BadSize);
@@ -176,14 +184,14 @@ fn judge_sized(bytes: &[u8], room: Room, width: u16, height: u16) -> Judged
 
 // A record, for a call with outputs.
 pub fn judge_record(bytes: &[u8], room: Room) -> Judged
-    ensures { λ r. ⌜ r ≡ judgeRecord (roomFor room) (now (bytes .entry)) ⌝ }
+    ensures { λ r. ⌜ r ≡ judgeRecord (roomFor (room .each) (room .fixed) (room .len)) (now (bytes .entry)) ⌝ }
 {
     if bytes.len() < 16 {
         return Judged::Refused(Refusal::BadLength);
     }
     let from = bytes.len() - 16;
-    let width = little::read_u16(bytes, from);
-    let height = little::read_u16(bytes, from + 2);
+    let width = sections::read_u16(bytes, from);
+    let height = sections::read_u16(bytes, from + 2);
     judge_sized(bytes, room, width, height)
 }
 
@@ -212,7 +220,7 @@ pub fn judge_lists(
 ) -> Judged
     ensures { λ r.
         let g = groundOfLists width height (now (heights .entry)) (now (marks .entry)) (now (water .entry)) in
-        ⌜ r ≡ judgeLists (roomFor room) g ⌝ }
+        ⌜ r ≡ judgeLists (roomFor (room .each) (room .fixed) (room .len)) g ⌝ }
 {
     if !limits::size_allowed(width, height) {
         return Judged::Refused(Refusal::BadSize);

@@ -1,11 +1,10 @@
 // What is judged without a look at the cells: 1, 2, 7 and 3 of document 01's table.
 ghost use mathlib.Core.Path.{_≡_};
 ghost use Prim.Native.Nat.{_+_, _<_, _≤_};
-ghost use lib.Dec.{eqb};
 ghost use lib.ListN.{length};
-ghost use mathlib.Core.Bool.{_&&_};
-ghost use Rattle.ground.specs.Judge.{roomFor, sizeAllowed};
+ghost use Rattle.ground.specs.Judge.{listsFull, sizeAllowed};
 ghost use Rattle.ground.specs.Record.{distancesRight};
+ghost use Rattle.ground.specs.Rooms.{roomFor};
 use crate::Room;
 
 // A small number as a count.
@@ -28,15 +27,14 @@ pub fn distances_right(bytes: &[u8], n: usize) -> bool
     ensures { λ r. ⌜ r ≡ distancesRight (now (bytes .entry)) n ⌝ }
 {
     let from = bytes.len() - 16;
-    little::read_u32(bytes, from + 4) as usize == 7 * n
-        && (little::read_u32(bytes, from + 8) as usize == 3 * n
-            && little::read_u32(bytes, from + 12) as usize == 2 * n)
+    sections::read_u32(bytes, from + 4) as usize == 7 * n
+        && (sections::read_u32(bytes, from + 8) as usize == 3 * n
+            && sections::read_u32(bytes, from + 12) as usize == 2 * n)
 }
 
 // Each of the three lists has n entries.
 pub fn lists_full(heights: &[i32], marks: &[u8], water: &[u16], n: usize) -> bool
-    ensures { λ r. ⌜ r ≡ eqb (length (now (heights .entry))) n
-        && (eqb (length (now (marks .entry))) n && eqb (length (now (water .entry))) n) ⌝ }
+    ensures { λ r. ⌜ r ≡ listsFull (now (heights .entry)) (now (marks .entry)) (now (water .entry)) n ⌝ }
 {
     heights.len() == n && (marks.len() == n && water.len() == n)
 }
@@ -44,7 +42,7 @@ pub fn lists_full(heights: &[i32], marks: &[u8], water: &[u16], n: usize) -> boo
 // The outputs have room for n cells.
 pub fn has_room(room: Room, n: usize) -> bool
     requires { ⌜ n ≤ 4096 ⌝ }
-    ensures { λ r. ⌜ r ≡ roomFor room n ⌝ }
+    ensures { λ r. ⌜ r ≡ roomFor (room .each) (room .fixed) (room .len) n ⌝ }
 {
     wide(room.each) * n + wide(room.fixed) <= room.len
 }

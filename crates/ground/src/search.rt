@@ -1,21 +1,29 @@
 // Searches by rows and columns that stop at the first cell that they look for (document 01, "Numbers given back"): each gives that
-// cell, or the number of cells where there is none.
-ghost use mathlib.Core.Bool.{not};
+// cell, or the number of cells where there is none. Heights of a record and marks are both bytes; heights of lists are numbers.
 ghost use mathlib.Core.Path.{_≡_};
 ghost use Prim.Native.Nat.{_*_, _+_, _<_, _≤_};
 ghost use lib.ListN.{length};
 ghost use Rattle.lists.specs.Find.{find};
-ghost use Rattle.rules.specs.Ground.{heightInRange};
-ghost use Rattle.little.specs.Little.{numberAt};
-ghost use Rattle.heights.specs.Bits.{heightsAt, signedOf};
-ghost use Rattle.ground.specs.Judge.{badHeight, badMark};
+ghost use Rattle.ground.specs.Judge.{badHeight};
+ghost use Rattle.ground.specs.Sought.{badInBytes, bytesEach};
 
-// The height in the four bytes of this cell is out of range.
-fn is_bad_in_record(bytes: &[u8], cell: usize) -> bool
-    requires { ⌜ 4 * cell + 4 ≤ length (now bytes) ⌝ }
-    ensures { λ r. ⌜ r ≡ not (heightInRange (signedOf (numberAt 4 (now (bytes .entry)) (4 * cell)))) ⌝ }
+// What is looked for in bytes.
+pub enum Sought {
+    // A height out of range; each cell has four bytes.
+    Height,
+    // A mark that is neither 0 nor 1; each cell has one byte.
+    Mark,
+}
+
+// In the bytes of this cell stands a bad one.
+fn is_bad_in_bytes(bytes: &[u8], sought: Sought, cell: usize) -> bool
+    requires { ⌜ bytesEach sought * (cell + 1) ≤ length (now bytes) ⌝ }
+    ensures { λ r. ⌜ r ≡ badInBytes sought (now (bytes .entry)) cell ⌝ }
 {
-    !heights::bits_in_range(little::read_u32(bytes, 4 * cell))
+    match sought {
+        Sought::Height => !heights::bits_in_range(sections::read_u32(bytes, 4 * cell)),
+        Sought::Mark => bytes[cell] > 1,
+    }
 }
 
 // The height in the entry of this cell is out of range.
@@ -26,18 +34,16 @@ fn is_bad_in_list(list: &[i32], cell: usize) -> bool
     !heights::in_range(list[cell])
 }
 
-// The first bad height of a record.
-pub fn first_bad_height_of_record(bytes: &[u8], width: usize, height: usize) -> usize
-    requires { ⌜ (width ≤ 64) × (height ≤ 64) × (4 * (height * width) ≤ length (now bytes)) ⌝ }
-    ensures { λ r.
-        let heights = heightsAt (now (bytes .entry)) 0 (height * width) in
-        ⌜ (r ≡ find (badHeight heights) (height * width)) × (r ≤ height * width) ⌝ }
+// The first bad cell of a record's heights, or of marks.
+pub fn first_bad_in_bytes(bytes: &[u8], sought: Sought, width: usize, height: usize) -> usize
+    requires { ⌜ (width ≤ 64) × (height ≤ 64) × (bytesEach sought * (height * width) ≤ length (now bytes)) ⌝ }
+    ensures { λ r. ⌜ (r ≡ find (badInBytes sought (now (bytes .entry))) (height * width)) × (r ≤ height * width) ⌝ }
 {
     let mut place = height * width;
     'search: for row in 0..height {
         for col in 0..width {
             let cell = row * width + col;
-            if is_bad_in_record(bytes, cell) {
+            if is_bad_in_bytes(bytes, sought, cell) {
                 place = cell;
                 break 'search;
             }
@@ -47,7 +53,7 @@ pub fn first_bad_height_of_record(bytes: &[u8], width: usize, height: usize) -> 
 }
 
 // The first bad height of a list.
-pub fn first_bad_height_of_list(list: &[i32], width: usize, height: usize) -> usize
+pub fn first_bad_in_list(list: &[i32], width: usize, height: usize) -> usize
     requires { ⌜ (width ≤ 64) × (height ≤ 64) × (height * width ≤ length (now list)) ⌝ }
     ensures { λ r. ⌜ (r ≡ find (badHeight (now (list .entry))) (height * width)) × (r ≤ height * width) ⌝ }
 {
@@ -56,24 +62,6 @@ pub fn first_bad_height_of_list(list: &[i32], width: usize, height: usize) -> us
         for col in 0..width {
             let cell = row * width + col;
             if is_bad_in_list(list, cell) {
-                place = cell;
-                break 'search;
-            }
-        }
-    }
-    place
-}
-
-// The first bad mark.
-pub fn first_bad_mark(marks: &[u8], width: usize, height: usize) -> usize
-    requires { ⌜ (width ≤ 64) × (height ≤ 64) × (height * width ≤ length (now marks)) ⌝ }
-    ensures { λ r. ⌜ (r ≡ find (badMark (now (marks .entry))) (height * width)) × (r ≤ height * width) ⌝ }
-{
-    let mut place = height * width;
-    'search: for row in 0..height {
-        for col in 0..width {
-            let cell = row * width + col;
-            if marks[cell] > 1 {
                 place = cell;
                 break 'search;
             }

@@ -3,16 +3,9 @@
 use mathlib.Core.List.{List}
 use mathlib.Core.Path.{ap, refl, subst, sym, _∙_, _≡_}
 use Prim.Native.Nat.{ℕ}
-use Rattle.groups.specs.Groups.{seenBy}
+use Rattle.groups.specs.Groups.{Between, seenBy}
 use Rattle.lists.specs.Lists.{_∈_}
 use Rattle.rules.specs.Chain.{back, Chain, Edges, forth, here}
-
--- an edge of a list between the cells a and b
-pub record Between {F : Type 0} (H : Edges F) (fs : List F) (a b : ℕ) : Type 0 where
-  pub edge : F
-  pub isin : edge ∈ fs
-  pub one : H .one edge ≡ a
-  pub other : H .other edge ≡ b
 
 -- edges between cells that are Ok, where α and β name the cells: cells with one α have one β, and each edge of es has one of fs
 -- between the same cells

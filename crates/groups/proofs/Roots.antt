@@ -11,9 +11,9 @@ use lib.ListN.{drop, length, List·getD-eq-default, set}
 use lib.Seq.{getD-set-other, getD-set-same}
 use borrow.Author.Tests.{eqb-false, eqb-true}
 use Rattle.groups.specs.Groups.{Down, rootOf}
-use Rattle.lists.proofs.Fill.{put-next}
-use Rattle.lists.proofs.Ranges.{at-upto, length-range, range-split}
-use Rattle.lists.proofs.Repeats.{repeat-fixed}
+use Rattle.lists.proofs.Overwrite.{overwrite-put}
+use Rattle.lists.proofs.Range.{range-length, range-split, upto-at}
+use Rattle.lists.proofs.Repeat.{repeat-fixed}
 use Rattle.lists.proofs.Tests.{is, isnt, Known, known, lt-or-ge}
 use Rattle.lists.specs.Lists.{at, repeat, upto}
 
@@ -116,7 +116,7 @@ halved g d i h =
 -- each basin alone: one more
 pub upto-next : (old : List ℕ) (n : ℕ) → n < length old → set (upto n ++ drop n old) n n ≡ upto (n + 1) ++ drop (n + 1) old
 upto-next old n h =
-    put-next (upto n) old n n (length-range n 0) h
+    overwrite-put (upto n) old n n (range-length n 0) h
     ∙ ap (λ (m : ℕ). (upto n ++ (m ∷ [])) ++ drop (n + 1) old) (sym (zero-add n))
     ∙ ap (λ (l : List ℕ). l ++ drop (n + 1) old) (sym (range-split 0 n 1))
 
@@ -125,10 +125,10 @@ pub alone-down : (n : ℕ) → Down (upto n)
 alone-down n b = go (lt-or-ge b n)
   where
     go : (b < n) ⊎ (n ≤ b) → at (upto n) b ≤ b
-    go (inl h) = subst (λ (v : ℕ). v ≤ b) (sym (at-upto n b h)) (le-refl b)
+    go (inl h) = subst (λ (v : ℕ). v ≤ b) (sym (upto-at n b h)) (le-refl b)
     go (inr h) =
-        let e : at (upto n) b ≡ 0 = List·getD-eq-default (upto n) 0 (subst (λ (k : ℕ). k ≤ b) (sym (length-range n 0)) h) in
+        let e : at (upto n) b ≡ 0 = List·getD-eq-default (upto n) 0 (subst (λ (k : ℕ). k ≤ b) (sym (range-length n 0)) h) in
         omega arith
 
 pub alone-root : (n b : ℕ) → b < n → rootOf (upto n) b ≡ b
-alone-root n b h = root-self (upto n) (alone-down n) b (at-upto n b h)
+alone-root n b h = root-self (upto n) (alone-down n) b (upto-at n b h)

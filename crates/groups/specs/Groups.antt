@@ -7,9 +7,8 @@ use mathlib.Core.Path.{_≡_}
 use Prim.Native.Nat.{min, ℕ, _<_, _≤_}
 use lib.Dec.{eqb}
 use lib.ListN.{length}
-use Rattle.lists.specs.Lists.{at, repeat}
+use Rattle.lists.specs.Lists.{at, repeat, _∈_}
 use Rattle.rules.specs.Chain.{Chain, Edges}
-use Rattle.rules.specs.Passes.{node}
 
 -- no entry is above its own place
 abbrev pub Down : List ℕ → Type 0
@@ -59,3 +58,10 @@ module _ {E : Type 0} where
     pub down : Down g
     pub chained : (a b : ℕ) → a < length old → b < length old → SameGroup g a b → BasinChain G old es a b
     pub grouped : (a b : ℕ) → a < length old → b < length old → BasinChain G old es a b → SameGroup g a b
+
+  -- an edge of a list between the cells a and b
+  pub record Between (G : Edges E) (es : List E) (a b : ℕ) : Type 0 where
+    pub edge : E
+    pub isin : edge ∈ es
+    pub one : G .one edge ≡ a
+    pub other : G .other edge ≡ b

@@ -22,7 +22,7 @@ pub fn alone(group: &mut [u16])
 }
 
 // The root of b's group. Each entry on the way is hung one step higher.
-pub fn find(group: &mut [u16], b: Basin) -> Basin
+fn find(group: &mut [u16], b: Basin) -> Basin
     requires { ⌜ (b .0 < length (now group)) × Down (now group) ⌝ }
     ensures { λ r. ⌜ (r .0 ≡ rootOf (now (group .entry)) (b .0)) × SameGroups (now (group .entry)) (now (group .exit)) ⌝ }
 {

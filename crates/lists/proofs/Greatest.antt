@@ -12,8 +12,8 @@ use native.Mathlib.Omega.{arith}
 use lib.Dec.{ltb}
 use lib.ListN.{length}
 use borrow.Author.Tests.{le-ltb, ltb-false}
-use Rattle.lists.proofs.Fill.{tab-suc}
 use Rattle.lists.proofs.Find.{find-left, find-none}
+use Rattle.lists.proofs.Tab.{tab-suc}
 use Rattle.lists.proofs.Tests.{lt-or-ge}
 use Rattle.lists.specs.Find.{find}
 use Rattle.lists.specs.Greatest.{greatest}
@@ -35,7 +35,7 @@ greatest-bounds [] b h k m = absurd (not-suc-le-zero m)
 greatest-bounds (x ∷ xs) b h zero m = omega arith
 greatest-bounds (x ∷ xs) b h (suc k) m = greatest-bounds xs b (omega arith) k (le-of-suc-le-suc m)
 
-pub greatest-bounded : (l : List ℕ) (b : ℕ) → ((k : ℕ) → k < length l → at l k ≤ b) → greatest l ≤ b
+greatest-bounded : (l : List ℕ) (b : ℕ) → ((k : ℕ) → k < length l → at l k ≤ b) → greatest l ≤ b
 greatest-bounded [] b h = omega arith
 greatest-bounded (x ∷ xs) b h =
     let first : x ≤ b = h zero (omega arith) in

@@ -8,15 +8,10 @@ use Prim.Native.Nat.{ℕ, _<_, _≤_}
 use native.Mathlib.Omega.{arith}
 use lib.ListN.{length, length-set, set}
 use lib.Seq.{getD-set-other, getD-set-same}
-use Rattle.lists.proofs.Entries.{filled-by}
+use Rattle.lists.proofs.Filled.{filled-by}
 use Rattle.lists.proofs.Tests.{eq-or-ne}
 use Rattle.lists.specs.Lists.{at, filled, _∈_}
-
--- l has f's numbers at the places, and old's elsewhere
-pub record Noted (f : ℕ → ℕ) (places old l : List ℕ) : Type 0 where
-  pub size : length l ≡ length old
-  pub there : (x : ℕ) → x ∈ places → at l x ≡ f x
-  pub elsewhere : (x : ℕ) → (x ∈ places → ⊥) → at l x ≡ at old x
+use Rattle.lists.specs.Stores.{Noted}
 
 -- nowhere
 pub noted-none : (f : ℕ → ℕ) (l : List ℕ) → Noted f [] l l

@@ -5,7 +5,7 @@ use mathlib.Core.Logic.{_⊎_}
 use mathlib.Core.Path.{_≡_}
 use Prim.Native.Nat.{ℕ, _<_, _≤_}
 use lib.ListN.{length, take}
-use Rattle.lists.specs.Lists.{at}
+use Rattle.lists.specs.Lists.{at, _∈_}
 
 -- the entries from a to b are f's, and every other is as it was
 pub record Puts (f : ℕ → ℕ) (a b : ℕ) (old new : List ℕ) : Type 0 where
@@ -17,3 +17,9 @@ pub record Puts (f : ℕ → ℕ) (a b : ℕ) (old new : List ℕ) : Type 0 wher
 pub record Packs (packed list : List ℕ) (r : ℕ) : Type 0 where
   pub count : r ≡ length packed
   pub first : take r list ≡ packed
+
+-- l has f's numbers at the places, and old's elsewhere
+pub record Noted (f : ℕ → ℕ) (places old l : List ℕ) : Type 0 where
+  pub size : length l ≡ length old
+  pub there : (x : ℕ) → x ∈ places → at l x ≡ f x
+  pub elsewhere : (x : ℕ) → (x ∈ places → ⊥) → at l x ≡ at old x

@@ -1,49 +1,36 @@
 -- Demand 3 holds of what a network call leaves in the lent lists of any accepted tile.
 -- Assumes nothing.
-use mathlib.Core.List.{List}
 use mathlib.Core.Path.{ap, subst, sym, _∙_, _≡_}
-use Prim.Native.Nat.{ℕ}
-use lib.Dec.{leb}
 use lib.IntN.{ℤ}
-use lib.ListN.{drop, length, take}
-use lib.Seq.{take-at}
+use Prim.Native.Nat.{ℕ}
 use Rattle.ground.proofs.Acceptance.{lists-accepted}
 use Rattle.ground.specs.Good.{Good}
-use Rattle.lists.proofs.Fill.{length-tab}
-use Rattle.lists.specs.Lists.{tab}
 use Rattle.network.proofs.Grounds.{good-drainable}
-use Rattle.network.proofs.Networks.{drains}
-use Rattle.network.specs.Call.{LentLists, Outcome, shortestOf, written}
+use Rattle.network.proofs.Networks.{network-full}
+use Rattle.network.specs.Call.{networkHolds, Outcome}
 use Rattle.network.specs.Left.{LeftDemand3}
 use Rattle.rules.proofs.Demand3Holds.{tile-demand-3}
-use Rattle.rules.specs.Carving.{receivers}
+use Rattle.rules.proofs.SixLists.{dropLevels-full, firstOf-onto}
 use Rattle.rules.specs.Demand3.{Demand3}
-use Rattle.rules.specs.Ground.{cellsOf, dropped, Ground}
+use Rattle.rules.specs.Ground.{cellsOf, Ground}
 use Rattle.rules.specs.Land.{land4}
-use Rattle.rules.specs.Network.{drainage, level, network, networkOf}
+use Rattle.rules.specs.Network.{liftedNetwork, Network, network, networkOf}
+use Rattle.rules.specs.SixLists.{firstOf, onto}
 use Rattle.ground.specs.declared.Judged.the-variants.{Accepted}
 
-written-demand-3 : (g : Ground) → Good g → {s : LentLists} (before : LentLists) → s ≡ written (network g) before → LeftDemand3 g s
-unfolding network networkOf
+written-demand-3 : (g : Ground) → Good g → {s : Network ℤ} (before : Network ℤ) → s ≡ onto (network g) before → LeftDemand3 g s
+unfolding network networkOf liftedNetwork
 written-demand-3 g G {s} before e =
     let n = cellsOf g in
     let L = land4 g in
-    let r = receivers L in
-    let f : ℕ → ℤ = λ c. dropped (level L r c) in
-    let d = drainage L (g .water) r in
-    let a : take n (s .receivers-of) ≡ r =
-    ap (λ (t : LentLists). take n (t .receivers-of)) e ∙ take-at r (drop (length r) (before .receivers-of)) n (drains g G .full) in
-    let b : take n (s .levels-of) ≡ tab n f =
-    ap (λ (t : LentLists). take n (t .levels-of)) e ∙ take-at (tab n f) (drop (length (tab n f)) (before .levels-of)) n (length-tab f n) in
-    let w : take n (s .drainage-of) ≡ tab n d =
-    ap (λ (t : LentLists). take n (t .drainage-of)) e ∙ take-at (tab n d) (drop (length (tab n d)) (before .drainage-of)) n (length-tab d n) in
+    let a : firstOf n s ≡ network g = firstOf-onto n (network g) before (dropLevels-full (network-full g G)) e in
+    let r = ap (λ (t : Network ℤ). t .receivers) a in
     record {
-      demands = subst (Demand3 L (g .water)) (sym a) (tile-demand-3 g (good-drainable g G));
-      levels-left = b ∙ ap (λ (x : List ℕ). tab n (λ c. dropped (level L x c))) (sym a);
-      drainage-left = w ∙ ap (λ (x : List ℕ). tab n (drainage L (g .water) x)) (sym a);
+      demands = subst (Demand3 L (g .water)) (sym r) (tile-demand-3 g (good-drainable g G));
+      lists-left = a ∙ ap (networkOf L (g .water)) (sym r);
     }
 
 -- for any outcome of a tile that is accepted
-pub call-demand-3 : (g : Ground) (before : LentLists) {w h : ℕ} {after : LentLists} → Outcome g before (Accepted w h) after → LeftDemand3 g after
+pub call-demand-3 : (g : Ground) (before : Network ℤ) {w h : ℕ} {after : Network ℤ} → Outcome g before (Accepted w h) after → LeftDemand3 g after
 call-demand-3 g before o =
-    written-demand-3 g (lists-accepted (λ n. leb n (shortestOf before)) g (sym (o .answer)) .good) before (o .lists)
+    written-demand-3 g (lists-accepted (networkHolds before) g (sym (o .answer)) .good) before (o .lists)

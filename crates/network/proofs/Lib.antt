@@ -1,6 +1,5 @@
 pub mod Lifts
 pub mod Grounds
 pub mod Networks
-pub mod Taken
 pub mod LeftDemand3
 pub mod OneOutcome

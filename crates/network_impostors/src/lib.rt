@@ -1,7 +1,8 @@
 // Impostors of the network call. `draw` promises what `network::network` promises, and hands on to it. Each must-fail edit puts an
 // impostor in its place: each impostor is safe and keeps a promise of its own, and the promise of `draw` shuts it out.
 ghost use Rattle.ground.specs.Record.{groundOfLists};
-ghost use Rattle.network.specs.Call.{lentLists, Outcome};
+ghost use Rattle.network.specs.Call.{Outcome};
+ghost use Rattle.rules.specs.SixLists.{sixLists};
 use ground::Judged;
 
 mod own_receiver; // own_receiver.rt: each cell is its own receiver
@@ -20,16 +21,16 @@ pub fn draw(
     basins: &mut [u16],
     order: &mut [u16],
     levels: &mut [i32],
-    drained: &mut [u32],
+    drainage: &mut [u32],
     wet: &mut [u8],
 ) -> Judged
     ensures { λ r.
         let g = groundOfLists width height (now (heights .entry)) (now (marks .entry)) (now (water .entry)) in
         let before =
-        lentLists (now (receivers .entry)) (now (basins .entry)) (now (order .entry)) (now (levels .entry)) (now (drained .entry))
+        sixLists (now (receivers .entry)) (now (basins .entry)) (now (order .entry)) (now (levels .entry)) (now (drainage .entry))
         (now (wet .entry)) in
         let after =
-        lentLists (now (receivers .exit)) (now (basins .exit)) (now (order .exit)) (now (levels .exit)) (now (drained .exit))
+        sixLists (now (receivers .exit)) (now (basins .exit)) (now (order .exit)) (now (levels .exit)) (now (drainage .exit))
         (now (wet .exit)) in
         ⌜ Outcome g before r after ⌝ }
 {
@@ -43,7 +44,7 @@ pub fn draw(
         basins,
         order,
         levels,
-        drained,
+        drainage,
         wet,
     )
 }

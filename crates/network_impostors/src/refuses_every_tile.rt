@@ -1,6 +1,6 @@
 // An impostor: every tile is refused with 6, which is right for a tile without an outlet.
 ghost use mathlib.Core.Path.{_≡_};
-ghost use Rattle.network.specs.Call.{lentLists};
+ghost use Rattle.rules.specs.SixLists.{sixLists};
 ghost use Rattle.ground.specs.declared.Refusal.the-variants.{NoOutlet};
 use ground::Judged;
 use ground::Refusal;
@@ -16,16 +16,16 @@ pub fn network(
     basins: &mut [u16],
     order: &mut [u16],
     levels: &mut [i32],
-    drained: &mut [u32],
+    drainage: &mut [u32],
     wet: &mut [u8],
 ) -> Judged
     ensures answer { λ r. ⌜ r ≡ Judged.Refused NoOutlet ⌝ }
     ensures lists { λ _.
         let before =
-        lentLists (now (receivers .entry)) (now (basins .entry)) (now (order .entry)) (now (levels .entry)) (now (drained .entry))
+        sixLists (now (receivers .entry)) (now (basins .entry)) (now (order .entry)) (now (levels .entry)) (now (drainage .entry))
         (now (wet .entry)) in
         let after =
-        lentLists (now (receivers .exit)) (now (basins .exit)) (now (order .exit)) (now (levels .exit)) (now (drained .exit))
+        sixLists (now (receivers .exit)) (now (basins .exit)) (now (order .exit)) (now (levels .exit)) (now (drainage .exit))
         (now (wet .exit)) in
         ⌜ after ≡ before ⌝ }
 {

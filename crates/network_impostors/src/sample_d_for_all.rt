@@ -14,7 +14,7 @@ pub fn network(
     basins: &mut [u16],
     order: &mut [u16],
     levels: &mut [i32],
-    drained: &mut [u32],
+    drainage: &mut [u32],
     wet: &mut [u8],
 ) -> Judged
     ensures { λ _. ⌜ length (now (receivers .exit)) ≡ length (now (receivers .entry)) ⌝ }
@@ -30,7 +30,7 @@ pub fn network(
             basins,
             order,
             levels,
-            drained,
+            drainage,
             wet,
         );
     }
@@ -49,7 +49,7 @@ pub fn network(
         basins,
         order,
         levels,
-        drained,
+        drainage,
         wet,
     )
 }

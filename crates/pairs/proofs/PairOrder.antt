@@ -1,111 +1,129 @@
 -- The order of pairs by height and number is the order of rule 3: of two pairs of one height the lesser number has the lesser cells. So
 -- pairs that are enough crossings are enough in order once they are sorted.
 -- Assumes nothing.
-use mathlib.Core.Bool.{false, true}
+use mathlib.Core.Bool.{true}
 use mathlib.Core.List.{[], List, List·Memᴰ·head as in-head, List·Memᴰ·tail as in-tail, map, _∷_}
 use mathlib.Core.Logic.{inl, inr, _⊎_}
-use mathlib.Core.Path.{ap, refl, subst, sym, _≡_}
-use Prim.Native.Nat.{ℕ, _%_, _*_, _+_, _/_, _<_, _≤_}
+use mathlib.Core.Path.{ap, refl, subst, sym, _∙_, _≡_}
+use Prim.Native.Nat.{ℕ, _%_, _*_, _<_, _≤_}
+use native.Mathlib.Nat.{div-add-mod'}
 use native.Mathlib.Omega.{arith}
-use lib.Dec.{eqb}
+use lib.Arith.{digits-lt}
+use lib.Dec.{ltb}
 use lib.ListN.{length}
-use borrow.Author.Tests.{eq-eqb, ne-eqb}
-use Rattle.lists.proofs.Members.{map-mem, mem-map}
-use Rattle.lists.proofs.Sorting.{ascending-rises, AscendingBy, Rising, rising-next, rising-none}
-use Rattle.lists.proofs.Tests.{eq, gt, lt, three, Three}
-use Rattle.lists.specs.Lists.{_∈_}
-use Rattle.pairs.specs.Pairs.{crossingOf, greaterOf, IsPair, lesserOf, pairHeight, pairKey, Pairs}
+use Rattle.grid.proofs.Window.{stands-less, stands-place}
+use Rattle.grid.specs.Window.{IsRule, placeOf, Stands}
+use Rattle.lists.proofs.Ascending.{ascending-rises}
+use Rattle.lists.proofs.Map.{map-holds, map-member}
+use Rattle.lists.proofs.Sorted.{sorted-at, sorted-keep}
+use Rattle.lists.proofs.Tests.{eq, eq-or-ne, gt, lt, lt-or-ge, Three, three}
+use Rattle.lists.specs.Ascending.{AscendingBy, Rising, rising-next}
+use Rattle.lists.specs.Lists.{at, _∈_}
+use Rattle.pairs.proofs.Pairs.{pair-number, pair-small}
+use Rattle.pairs.specs.Pairs.{crossingOf, greaterOf, IsPair, later, lesserOf, mostPairs, pairHeight, pairKey, Pairs, placeIn}
 use Rattle.rules.proofs.CrossingOrder.{by-greater, by-height, by-lesser, Less, Less→less}
 use Rattle.rules.specs.Enough.{Enough, first, InOrder, none, Suffices}
-use Rattle.rules.specs.Land.{Land}
+use Rattle.rules.specs.Land.{Land, Rule}
 use Rattle.rules.specs.Passes.{Crossing, crossingHeight, less}
-use Rattle.tiles.specs.Tile.{Tile, tileLand}
+use Rattle.rules.specs.Tile.{Tile, tileLand}
 
--- the lesser pair has the lesser cells: a pair to the right needs a second column, so the cell below comes after it
-pub pair-order : (w n p q : ℕ) → IsPair w n p → p < q
-    → (lesserOf p < lesserOf q) ⊎ ((lesserOf p ≡ lesserOf q) × (greaterOf w p < greaterOf w q))
-pair-order w n p q i l = go (three (lesserOf p) (lesserOf q))
+-- x's cells come before y's: by the lesser, then by the greater
+abbrev pub CellsLess : Crossing → Crossing → Type 0
+CellsLess x y = (x .lesser < y .lesser) ⊎ ((x .lesser ≡ y .lesser) × (x .greater < y .greater))
+
+-- rule 3's order: no higher, and where the heights are one, with cells that come before
+pub less-by : (L : Land) (x y : Crossing) → crossingHeight L x ≤ crossingHeight L y
+    → (crossingHeight L x ≡ crossingHeight L y → CellsLess x y) → less L x y ≡ true
+less-by L x y h f = Less→less L x y (go (eq-or-ne (crossingHeight L x) (crossingHeight L y)))
   where
-    go : Three (lesserOf p) (lesserOf q) → (lesserOf p < lesserOf q) ⊎ ((lesserOf p ≡ lesserOf q) × (greaterOf w p < greaterOf w q))
-    go (lt a) = inl a
-    go (gt a) = absurd (omega arith)
-    go (eq a) =
-        let right : p % 2 ≡ 1 → ⊥ = λ z. omega arith in
-        let below : q % 2 ≡ 1 = omega arith in
-        let x : eqb (p % 2) 1 ≡ false = ne-eqb (p % 2) 1 right in
-        let y : eqb (q % 2) 1 ≡ true = eq-eqb (q % 2) 1 below in
-        let wide : lesserOf p % w + 1 < w = i .in-row right in
-        inr (a, rw (x, y) (omega arith))
+    tie : crossingHeight L x ≡ crossingHeight L y → CellsLess x y → Less L x y
+    tie e (inl l) = by-lesser e l
+    tie e (inr (l, g)) = by-greater e l g
 
--- a crossing has one pair
-pub pair-one : (w n p q : ℕ) → IsPair w n p → IsPair w n q → crossingOf w p ≡ crossingOf w q → p ≡ q
-pair-one w n p q i j e = go (three p q)
-  where
-    apart : (a b : ℕ) → crossingOf w a ≡ crossingOf w b
-        → (lesserOf a < lesserOf b) ⊎ ((lesserOf a ≡ lesserOf b) × (greaterOf w a < greaterOf w b)) → ⊥
-    apart a b f (inl l) = let s : lesserOf a ≡ lesserOf b = ap (λ (x : Crossing). x .lesser) f in omega arith
-    apart a b f (inr (s, l)) = let g : greaterOf w a ≡ greaterOf w b = ap (λ (x : Crossing). x .greater) f in omega arith
+    go : (crossingHeight L x ≡ crossingHeight L y) ⊎ (crossingHeight L x ≡ crossingHeight L y → ⊥) → Less L x y
+    go (inl e) = tie e (f e)
+    go (inr z) = by-height (omega arith)
 
-    go : Three p q → p ≡ q
-    go (lt l) = absurd (apart p q e (pair-order w n p q i l))
-    go (eq f) = f
-    go (gt l) = absurd (apart q p (sym e) (pair-order w n q p j l))
+module _ (places : List ℕ) (I : IsRule places) (w n p q : ℕ) (P : IsPair places w n p) (Q : IsPair places w n q) where
+  abbrev k : ℕ
+  k = length (later places)
 
--- the lesser cell of a pair is on the tile as well
-pub pair-lesser : (w n p : ℕ) → IsPair w n p → lesserOf p < n
-pair-lesser w n p i = let o = i .on in omega arith
+  -- of two numbers of later places the lesser is the lesser place
+  place-less : (i j : ℕ) → i < j → j < k → at (later places) i < at (later places) j
+  place-less = sorted-at (sorted-keep (ltb 4) (I .ascending))
 
--- a pair of a tile's cells has 13 bits
-pub pair-small : (w n p : ℕ) → n ≤ 4096 → IsPair w n p → p < 8192
-pair-small w n p few i = let o = i .on in omega arith
+  -- the lesser pair has the lesser cells
+  pub pair-order : 0 < w → p < q → CellsLess (crossingOf places w p) (crossingOf places w q)
+  pair-order wide h = go (three (lesserOf places p) (lesserOf places q))
+    where
+      go : Three (lesserOf places p) (lesserOf places q) → CellsLess (crossingOf places w p) (crossingOf places w q)
+      go (lt l) = inl l
+      go (gt l) = let d = digits-lt l (pair-number places w n q Q) in absurd (omega (arith, div-add-mod' p k, div-add-mod' q k))
+      go (eq e) =
+          let f = ap (λ (x : ℕ). x * length (later places)) e in
+          let T = subst (λ (c : ℕ). Stands w n c (placeIn places q) (greaterOf places w q)) (sym e) Q in
+          let l = place-less (p % k) (q % k) (omega (arith, div-add-mod' p k, div-add-mod' q k)) (pair-number places w n q Q) in
+          inr (e, stands-less P wide T l)
 
-module _ (w : ℕ) (heights marks : List ℕ) (T : Tile w heights marks) where
+  -- a crossing has one pair
+  pub pair-one : crossingOf places w p ≡ crossingOf places w q → p ≡ q
+  pair-one e = go (three (p % k) (q % k))
+    where
+      same : placeIn places p ≡ placeIn places q
+      same = sym (stands-place P) ∙ ap (λ (x : Crossing). placeOf w (x .lesser) (x .greater)) e ∙ stands-place Q
+
+      go : Three (p % length (later places)) (q % length (later places)) → p ≡ q
+      go (lt l) = let d = place-less (p % k) (q % k) l (pair-number places w n q Q) in absurd (omega (arith, same))
+      go (gt l) = let d = place-less (q % k) (p % k) l (pair-number places w n p P) in absurd (omega (arith, same))
+      go (eq l) =
+          let f = ap (λ (x : Crossing). x .lesser * length (later places)) e in
+          omega (arith, div-add-mod' p k, div-add-mod' q k)
+
+module _ (R : Rule) (I : IsRule (R .places)) (w : ℕ) (heights marks : List ℕ) (T : Tile w heights marks) where
   abbrev L : Land
-  L = tileLand w heights marks
+  L = tileLand R w heights marks
 
   abbrev n : ℕ
   n = length heights
 
-  key-less : (p q : ℕ) → IsPair w n p → IsPair w n q → pairKey w heights p < pairKey w heights q → less L (crossingOf w p) (crossingOf w q) ≡ true
+  abbrev cross : ℕ → Crossing
+  cross = crossingOf (R .places) w
+
+  abbrev high : ℕ → ℕ
+  high = pairHeight (R .places) w heights
+
+  key-less : (p q : ℕ) → IsPair (R .places) w n p → IsPair (R .places) w n q
+      → pairKey (R .places) w heights p < pairKey (R .places) w heights q → less L (cross p) (cross q) ≡ true
   unfolding crossingHeight
-  key-less p q i j l = Less→less L (crossingOf w p) (crossingOf w q) (go (three (pairHeight w heights p) (pairHeight w heights q)))
+  key-less p q i j l = less-by L (cross p) (cross q) (no-higher (lt-or-ge (high q) (high p))) same
     where
-      a : p < 8192
-      a = pair-small w (length heights) p (T .few) i
+      no-higher : (high q < high p) ⊎ (high p ≤ high q) → high p ≤ high q
+      no-higher (inl h) = let d = digits-lt h (pair-small (R .places) w n q j (T .grid .few)) in absurd (omega arith)
+      no-higher (inr h) = h
 
-      b : q < 8192
-      b = pair-small w (length heights) q (T .few) j
+      same : high p ≡ high q → CellsLess (cross p) (cross q)
+      same e =
+          let f = ap (λ (z : ℕ). z * mostPairs (R .places) 4096) e in
+          pair-order (R .places) I w n p q i j (T .grid .rows .wide) (omega arith)
 
-      tie : pairHeight w heights p ≡ pairHeight w heights q
-          → (lesserOf p < lesserOf q) ⊎ ((lesserOf p ≡ lesserOf q) × (greaterOf w p < greaterOf w q))
-          → Less L (crossingOf w p) (crossingOf w q)
-      tie e (inl x) = by-lesser e x
-      tie e (inr (x, y)) = by-greater e x y
-
-      go : Three (pairHeight w heights p) (pairHeight w heights q) → Less L (crossingOf w p) (crossingOf w q)
-      go (lt h) = by-height h
-      go (eq e) = tie e (pair-order w (length heights) p q i (omega (arith, ap (λ (z : ℕ). z * 8192) e)))
-      go (gt h) = absurd (omega (arith, a, b))
-
-  in-order : (s : List ℕ) → Pairs w n s → Rising (pairKey w heights) s → InOrder L (map (crossingOf w) s)
+  in-order : (s : List ℕ) → Pairs (R .places) w n s → Rising (pairKey (R .places) w heights) s → InOrder L (map cross s)
   in-order [] k r = none
-  in-order (x ∷ xs) k (rising-next u r) = first (λ y m. go y (mem-map (crossingOf w) xs m)) (in-order xs (λ p m. k p (in-tail m)) r)
+  in-order (x ∷ xs) k (rising-next u r) = first (λ y m. go y (map-member cross xs m)) (in-order xs (λ p m. k p (in-tail m)) r)
     where
-      go : (y : Crossing) → (p : ℕ) × (p ∈ xs) × (y ≡ crossingOf w p) → less L (crossingOf w x) y ≡ true
+      go : (y : Crossing) → (p : ℕ) × (p ∈ xs) × (y ≡ cross p) → less L (cross x) y ≡ true
       go y (p, m, e) =
-          subst (λ (z : Crossing). less L (crossingOf w x) z ≡ true) (sym e)
-          (key-less x p (k x (in-head refl)) (k p (in-tail m)) (u p m))
+          subst (λ (z : Crossing). less L (cross x) z ≡ true) (sym e) (key-less x p (k x (in-head refl)) (k p (in-tail m)) (u p m))
 
   -- pairs K that suffice, and s, the same pairs ascending by height and number
-  pub sorted-enough : (K s : List ℕ) → Pairs w n K → Suffices L (map (crossingOf w) K) → ((p : ℕ) → p ∈ s → p ∈ K) → ((p : ℕ) → p ∈ K → p ∈ s)
-      → AscendingBy (pairKey w heights) s → Enough L (map (crossingOf w) s)
+  pub sorted-enough : (K s : List ℕ) → Pairs (R .places) w n K → Suffices L (map cross K)
+      → ((p : ℕ) → p ∈ s → p ∈ K) → ((p : ℕ) → p ∈ K → p ∈ s) → AscendingBy (pairKey (R .places) w heights) s → Enough L (map cross s)
   sorted-enough K s on S f g u =
       record {
         suffices = record { only = λ x m. S .only x (moved s K f x m); all = λ x m. moved K s g x (S .all x m) };
-        ordered = in-order s (λ p m. on p (f p m)) (ascending-rises (pairKey w heights) s u);
+        ordered = in-order s (λ p m. on p (f p m)) (ascending-rises (pairKey (R .places) w heights) s u);
       }
     where
-      moved : (a b : List ℕ) → ((p : ℕ) → p ∈ a → p ∈ b) → (x : Crossing) → x ∈ map (crossingOf w) a → x ∈ map (crossingOf w) b
+      moved : (a b : List ℕ) → ((p : ℕ) → p ∈ a → p ∈ b) → (x : Crossing) → x ∈ map cross a → x ∈ map cross b
       moved a b h x m =
-          let (p, i, e) = mem-map (crossingOf w) a m in
-          subst (λ (z : Crossing). z ∈ map (crossingOf w) b) (sym e) (map-mem (crossingOf w) (h p i))
+          let (p, i, e) = map-member cross a m in
+          subst (λ (z : Crossing). z ∈ map cross b) (sym e) (map-holds cross (h p i))

@@ -1,3 +1,4 @@
 pub mod IsChosen
 pub mod JoinsChosen
 pub mod PickTurns
+pub mod Choosing

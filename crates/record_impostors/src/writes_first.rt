@@ -3,7 +3,7 @@ ghost use mathlib.Core.Path.{_≡_};
 ghost use lib.ListN.{set};
 ghost use Rattle.ground.specs.Judge.{judgeRecord, leaves};
 ghost use Rattle.ground.specs.Record.{groundOfRecord};
-ghost use Rattle.records.specs.Rooms.{listsHold};
+ghost use Rattle.ground.specs.Rooms.{listsHold};
 use ground::Judged;
 
 // The right answer, and an entry written before it was known.

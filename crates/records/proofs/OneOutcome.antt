@@ -7,7 +7,7 @@ use lib.IntN.{ℤ}
 use Rattle.ground.specs.Judge.{judgeLists, judgeRecord, leaves}
 use Rattle.ground.specs.Record.{groundOfRecord, recordOf}
 use Rattle.lists.proofs.Determined.{one-outcome}
-use Rattle.records.specs.Rooms.{listsHold, recordHolds}
+use Rattle.ground.specs.Rooms.{listsHold, recordHolds}
 use Rattle.rules.specs.Ground.{Ground}
 use Rattle.ground.specs.declared.Judged.{Judged}
 

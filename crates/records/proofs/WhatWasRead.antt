@@ -9,16 +9,16 @@ use lib.Dec.{eqb}
 use lib.ListN.{drop, length, length-drop}
 use lib.Seq.{take-all}
 use borrow.Author.Tests.{eqb-true}
-use Rattle.ground.proofs.Acceptance.{AcceptedRecord}
+use Rattle.ground.specs.Accepted.{AcceptedRecord}
 use Rattle.ground.specs.Record.{distancesRight, groundOfRecord, heightIn, recordOf, trailer, trailerAt, widthIn}
 use Rattle.heights.proofs.HeightSections.{heightSection-heightsAt}
 use Rattle.heights.specs.Bits.{heightSection}
-use Rattle.lists.proofs.Lent.{join-next}
+use Rattle.lists.proofs.Stretch.{stretch-join}
 use Rattle.lists.proofs.Tests.{and-left, and-right}
-use Rattle.lists.specs.Lent.{Below, stretch}
-use Rattle.little.proofs.Numbers.{bytesOf-standing}
-use Rattle.little.proofs.Sections.{sectionOf-numbersAt}
-use Rattle.little.specs.Little.{bytesOf, numberAt, sectionOf}
+use Rattle.lists.specs.Lists.{Below, stretch}
+use Rattle.sections.proofs.Numbers.{bytesOf-standing}
+use Rattle.sections.proofs.Sections.{sectionOf-numbersAt}
+use Rattle.sections.specs.LittleEndian.{bytesOf, numberAt, sectionOf}
 use Rattle.rules.specs.Ground.{cellsOf}
 
 -- the trailer's five numbers are those that were judged; w and h are the width and the height that it names
@@ -41,10 +41,10 @@ trailer-read s w h bytes long ew eh right =
     let p4 = bytesOf-standing 4 s (7 * n + 8) bytes (omega arith) d2 in
     let p5 = bytesOf-standing 4 s (7 * n + 12) bytes (omega arith) d3 in
     let last : stretch (7 * n + 12) 4 s ≡ drop (7 * n + 12) s = take-all 4 (drop (7 * n + 12) s) (simp length-drop (omega arith)) in
-    join-next s (7 * n) 2 (7 * n + 2) refl p1
-    (join-next s (7 * n + 2) 2 (7 * n + 4) (omega arith) p2
-    (join-next s (7 * n + 4) 4 (7 * n + 8) (omega arith) p3
-    (join-next s (7 * n + 8) 4 (7 * n + 12) (omega arith) p4 (p5 ∙ last))))
+    stretch-join s (7 * n) 2 (7 * n + 2) refl p1
+    (stretch-join s (7 * n + 2) 2 (7 * n + 4) (omega arith) p2
+    (stretch-join s (7 * n + 4) 4 (7 * n + 8) (omega arith) p3
+    (stretch-join s (7 * n + 8) 4 (7 * n + 12) (omega arith) p4 (p5 ∙ last))))
 
 pub record-read : (room : ℕ → Bool) (s : List ℕ) {w h : ℕ} → Below 256 s → AcceptedRecord room s w h → recordOf (groundOfRecord s) ≡ s
 unfolding recordOf groundOfRecord
@@ -53,9 +53,9 @@ record-read room s bytes a =
     let n = cellsOf g in
     let long = a .long in
     regroup (heightSection (g .heights)) (g .marks) (sectionOf 2 (g .water)) (trailer (g .width) (g .height))
-    ∙ join-next s 0 (4 * n) (4 * n) (omega arith) (heightSection-heightsAt s 0 n bytes (omega arith))
-    (join-next s (4 * n) n (5 * n) (omega arith) refl
-    (join-next s (5 * n) (2 * n) (7 * n) (omega arith) (sectionOf-numbersAt 2 s (5 * n) n bytes (omega arith))
+    ∙ stretch-join s 0 (4 * n) (4 * n) (omega arith) (heightSection-heightsAt s 0 n bytes (omega arith))
+    (stretch-join s (4 * n) n (5 * n) (omega arith) refl
+    (stretch-join s (5 * n) (2 * n) (7 * n) (omega arith) (sectionOf-numbersAt 2 s (5 * n) n bytes (omega arith))
     (trailer-read s (g .width) (g .height) bytes long refl refl (a .distances))))
   where
     regroup : (p q r t : List ℕ) → ((p ++ q) ++ r) ++ t ≡ p ++ (q ++ (r ++ t))

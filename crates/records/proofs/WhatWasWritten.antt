@@ -8,17 +8,16 @@ use native.Mathlib.Nat.{add-zero}
 use native.Mathlib.Omega.{arith}
 use borrow.Author.Tests.{eq-eqb}
 use Rattle.ground.proofs.Acceptance.{accept-record, good-few, good-full}
-use Rattle.ground.proofs.SizedLists.{Full}
-use Rattle.ground.specs.Good.{Good}
+use Rattle.ground.specs.Good.{Full, Good}
 use Rattle.ground.specs.Judge.{judgeRecord}
 use Rattle.ground.specs.Record.{distancesRight, groundOfRecord, heightIn, recordOf, trailer, trailerAt, widthIn}
 use Rattle.heights.proofs.HeightSections.{heightsAt-heightSection}
 use Rattle.heights.specs.Bits.{heightsAt, heightSection}
-use Rattle.lists.proofs.Lent.{stretch-at}
-use Rattle.lists.specs.Lent.{Below, stretch}
-use Rattle.little.proofs.Numbers.{numberAt-skip}
-use Rattle.little.proofs.Sections.{numbersAt-sectionOf}
-use Rattle.little.specs.Little.{numberAt, numbersAt, sectionOf}
+use Rattle.lists.proofs.Stretch.{stretch-at}
+use Rattle.lists.specs.Lists.{Below, stretch}
+use Rattle.sections.proofs.Numbers.{numberAt-skip}
+use Rattle.sections.proofs.Sections.{numbersAt-sectionOf}
+use Rattle.sections.specs.LittleEndian.{numberAt, numbersAt, sectionOf}
 use Rattle.records.proofs.Sections.{length-recordOf, marks-start, trailer-start, water-start}
 use Rattle.rules.specs.Ground.{cellsOf, Ground}
 use Rattle.ground.specs.declared.Judged.the-variants.{Accepted}

@@ -1,16 +1,15 @@
 // Ground records read into lists and written from them (document 01, "Records"). Each call judges its input first, in the order of
 // document 01's table: a refusal changes nothing, and what is past the last entry or byte filled stays as it was.
-ghost use mathlib.Core.List.{_++_};
 ghost use mathlib.Core.Path.{_≡_};
 ghost use Prim.Native.Nat.{_*_, _+_, _≤_};
-ghost use lib.ListN.{drop, length};
-ghost use Rattle.lists.specs.Lent.{overwrite, stored, stretch};
-ghost use Rattle.little.specs.Little.{numbersAt};
+ghost use lib.ListN.{length};
+ghost use Rattle.lists.specs.Lists.{overwrite, stored, stretch};
+ghost use Rattle.sections.specs.LittleEndian.{numbersAt};
 ghost use Rattle.heights.specs.Bits.{heightsAt};
 ghost use Rattle.ground.specs.Good.{Good};
 ghost use Rattle.ground.specs.Judge.{judgeLists, judgeRecord, leaves};
 ghost use Rattle.ground.specs.Record.{groundOfLists, groundOfRecord, recordOf, trailer};
-ghost use Rattle.records.specs.Rooms.{listsHold, recordHolds};
+ghost use Rattle.ground.specs.Rooms.{listsHold, recordHolds};
 use ground::Judged;
 use ground::Room;
 
@@ -18,13 +17,13 @@ use ground::Room;
 fn read_cells(bytes: &[u8], n: usize, heights: &mut [i32], marks: &mut [u8], water: &mut [u16])
     requires { ⌜ (length (now bytes) ≡ 7 * n + 16)
         × (n ≤ length (now heights)) × (n ≤ length (now marks)) × (n ≤ length (now water)) ⌝ }
-    ensures { λ _. ⌜ now (heights .exit) ≡ heightsAt (now (bytes .entry)) 0 n ++ drop n (now (heights .entry)) ⌝ }
-    ensures { λ _. ⌜ now (marks .exit) ≡ stretch (4 * n) n (now (bytes .entry)) ++ drop n (now (marks .entry)) ⌝ }
-    ensures { λ _. ⌜ now (water .exit) ≡ numbersAt 2 (now (bytes .entry)) (5 * n) n ++ drop n (now (water .entry)) ⌝ }
+    ensures { λ _. ⌜ now (heights .exit) ≡ overwrite (heightsAt (now (bytes .entry)) 0 n) (now (heights .entry)) ⌝ }
+    ensures { λ _. ⌜ now (marks .exit) ≡ overwrite (stretch (4 * n) n (now (bytes .entry))) (now (marks .entry)) ⌝ }
+    ensures { λ _. ⌜ now (water .exit) ≡ overwrite (numbersAt 2 (now (bytes .entry)) (5 * n) n) (now (water .entry)) ⌝ }
 {
     heights::read_section_heights(bytes, 0, n, heights);
-    little::read_section_u8(bytes, 4 * n, n, marks);
-    little::read_section_u16(bytes, 5 * n, n, water);
+    sections::read_section_u8(bytes, 4 * n, n, marks);
+    sections::read_section_u16(bytes, 5 * n, n, water);
 }
 
 // A ground record into lent lists of heights, marks and water, each of at least N entries.
@@ -57,11 +56,11 @@ fn fill_trailer(part: &mut [u8], width: u16, height: u16)
     ensures { λ _. ⌜ now (part .exit) ≡ trailer width height ⌝ }
 {
     let n = ground::cells(width, height) as u32;
-    little::write_u16(part, 0, width);
-    little::write_u16(part, 2, height);
-    little::write_u32(part, 4, 7 * n);
-    little::write_u32(part, 8, 3 * n);
-    little::write_u32(part, 12, 2 * n);
+    sections::write_u16(part, 0, width);
+    sections::write_u16(part, 2, height);
+    sections::write_u32(part, 4, 7 * n);
+    sections::write_u32(part, 8, 3 * n);
+    sections::write_u32(part, 12, 2 * n);
 }
 
 // The trailer into the record from index `from` on.
@@ -90,8 +89,8 @@ fn write_sections(
 {
     let n = ground::cells(width, height);
     heights::write_section_heights(bytes, 0, heights);
-    little::write_section_u8(bytes, 4 * n, marks);
-    little::write_section_u16(bytes, 5 * n, water);
+    sections::write_section_u8(bytes, 4 * n, marks);
+    sections::write_section_u16(bytes, 5 * n, water);
     write_trailer(bytes, 7 * n, width, height);
 }
 

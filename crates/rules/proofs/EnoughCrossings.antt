@@ -10,8 +10,8 @@ use mathlib.Core.Path.{refl, subst, sym, _≡_}
 use Prim.Native.Nat.{suc, ℕ}
 use native.Mathlib.Nat.{lt-suc-self}
 use lib.ListN.{length}
-use Rattle.lists.proofs.Members.{keep-mem, mem-keep}
-use Rattle.lists.proofs.Sorted.{ordered-same}
+use Rattle.lists.proofs.Keep.{keep-holds, keep-member}
+use Rattle.lists.proofs.Ordered.{ordered-same}
 use Rattle.lists.proofs.Tests.{clash}
 use Rattle.lists.specs.Lists.{keep, _∈_}
 use Rattle.rules.proofs.Chains.{bind, mono, turned, _then_}
@@ -40,7 +40,7 @@ module _ (L : Land) where
   unfolding lessThan chosen picked
   pass-by-chosen x p m s =
       mono
-      (λ y i. let j = mem-keep _ (keep (picked L) (passes L)) i in keep-mem _ (j .0) (no-greater p y x s (j .1)))
+      (λ y i. let j = keep-member _ (keep (picked L) (passes L)) i in keep-holds _ (j .0) (no-greater p y x s (j .1)))
       (replaced (ranked L) (passes L) (picked L) (lost L) (suc (length (below (ranked L) p (passes L)))) p m (lt-suc-self _))
 
   -- so is a lesser crossing
@@ -50,7 +50,7 @@ module _ (L : Land) where
   crossing-by-chosen x y m = go (w .like) (pass-by-chosen x (w .pass) (w .isin) (low (w .low)))
     where
       i : (y ∈ crossings L) × (less L y x ≡ true)
-      i = mem-keep _ (crossings L) m
+      i = keep-member _ (crossings L) m
 
       w : Under L y
       w = under-all L (suc (length (keep (λ z. less L z y) (crossings L)))) y (i .0) (lt-suc-self _)
@@ -65,24 +65,24 @@ module _ (L : Land) where
       go (inr (a, b)) c = here (sym (node-same L _ _ b)) then turned c then here (node-same L _ _ a)
 
   -- a chain of lesser crossings is one of lesser chosen passes
-  pub by-chosen : (x : Crossing) {a b : ℕ} → Chain (edges L) (lessThan L x (crossings L)) a b → Chain (edges L) (lessThan L x (chosen L)) a b
+  by-chosen : (x : Crossing) {a b : ℕ} → Chain (edges L) (lessThan L x (crossings L)) a b → Chain (edges L) (lessThan L x (chosen L)) a b
   by-chosen x c = bind (crossing-by-chosen x) c
 
-  pub lessThan-mono : (x : Crossing) {es fs : List Crossing} → ((y : Crossing) → y ∈ es → y ∈ fs) → (y : Crossing) → y ∈ lessThan L x es
+  lessThan-mono : (x : Crossing) {es fs : List Crossing} → ((y : Crossing) → y ∈ es → y ∈ fs) → (y : Crossing) → y ∈ lessThan L x es
       → y ∈ lessThan L x fs
   unfolding lessThan
-  lessThan-mono x {es} f y m = let i = mem-keep _ es m in keep-mem _ (f y (i .0)) (i .1)
+  lessThan-mono x {es} f y m = let i = keep-member _ es m in keep-holds _ (f y (i .0)) (i .1)
 
   pub chosen-crossing : (x : Crossing) → x ∈ chosen L → x ∈ crossings L
   chosen-crossing x m = pass-crossing L (chosen-pass L m)
 
   module _ {K : List Crossing} (S : Suffices L K) where
     -- a chosen pass is not joined by lesser members
-    pub sufficient-apart : (x : Crossing) → x ∈ chosen L → Chain (edges L) (lessThan L x K) (node L (x .lesser)) (node L (x .greater)) → ⊥
+    sufficient-apart : (x : Crossing) → x ∈ chosen L → Chain (edges L) (lessThan L x K) (node L (x .lesser)) (node L (x .greater)) → ⊥
     sufficient-apart x m c = chosen-apart L x m (mono (lessThan-mono x (S .only)) c)
 
     -- a member that isn't is a chosen pass
-    pub apart-sufficient : (x : Crossing) → x ∈ K → (Chain (edges L) (lessThan L x K) (node L (x .lesser)) (node L (x .greater)) → ⊥)
+    apart-sufficient : (x : Crossing) → x ∈ K → (Chain (edges L) (lessThan L x K) (node L (x .lesser)) (node L (x .greater)) → ⊥)
         → x ∈ chosen L
     apart-sufficient x m n = apart-chosen L x (S .only x m) (λ c. n (mono (lessThan-mono x (S .all)) (by-chosen x c)))
 
@@ -112,7 +112,7 @@ module _ (L : Land) where
       go (inr n) = other (in-cases n)
 
   -- crossings in order are determined by what they are, and so are the chosen passes in order
-  pub in-order-same : (a b : List Crossing) → InOrder L a → InOrder L b → ((x : Crossing) → x ∈ a → x ∈ b) → ((x : Crossing) → x ∈ b → x ∈ a)
+  in-order-same : (a b : List Crossing) → InOrder L a → InOrder L b → ((x : Crossing) → x ∈ a → x ∈ b) → ((x : Crossing) → x ∈ b → x ∈ a)
       → a ≡ b
   in-order-same =
       ordered-same (λ x y. less L x y ≡ true) (λ x y h l. strictly L .irr x (strictly L .trans x y x h l)) (InOrder L) head tail
@@ -132,10 +132,10 @@ module _ (L : Land) where
     pub met-apart : x ∈ chosen L → Chain (edges L) p (node L (x .lesser)) (node L (x .greater)) → ⊥
     unfolding lessThan
     met-apart m c =
-        sufficient-apart L (E .suffices) x m (mono (λ y i. keep-mem _ (in-left (x ∷ q) i) (before-less p q x y (E .ordered) i)) c)
+        sufficient-apart L (E .suffices) x m (mono (λ y i. keep-holds _ (in-left (x ∷ q) i) (before-less p q x y (E .ordered) i)) c)
 
     pub apart-met : (Chain (edges L) p (node L (x .lesser)) (node L (x .greater)) → ⊥) → x ∈ chosen L
     unfolding lessThan
     apart-met n =
         apart-sufficient L (E .suffices) x (in-right p (in-head refl))
-        (λ c. n (mono (λ y i. let j = mem-keep _ (p ++ (x ∷ q)) i in less-before p q x y (E .ordered) (j .0) (j .1)) c))
+        (λ c. n (mono (λ y i. let j = keep-member _ (p ++ (x ∷ q)) i in less-before p q x y (E .ordered) (j .0) (j .1)) c))

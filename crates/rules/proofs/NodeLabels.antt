@@ -5,9 +5,9 @@ use mathlib.Core.List.{List}
 use mathlib.Core.Path.{ap, sym, _∙_, _≡_}
 use Prim.Native.Nat.{ℕ, _<_, _≤_}
 use native.Mathlib.Omega.{arith}
-use Rattle.lists.proofs.Counts.{count-below}
-use Rattle.lists.proofs.Ranges.{at-tab}
-use Rattle.lists.proofs.Tests.{is, isnt, known, Known}
+use Rattle.lists.proofs.Count.{count-below}
+use Rattle.lists.proofs.Tab.{tab-at}
+use Rattle.lists.proofs.Tests.{is, isnt, Known, known}
 use Rattle.lists.specs.Lists.{at, tab}
 use Rattle.rules.proofs.BasinNumbers.{basin-is, basin-same, pit, same-basin}
 use Rattle.rules.proofs.Crossings.{node-root, node-same}
@@ -83,4 +83,4 @@ module _ (L : Land) (W : Lawful L) where
       }
     where
       label-at : (c : ℕ) → c < L .cells → at labels c ≡ labelOf L c
-      label-at c h = ap (λ (l : List ℕ). at l c) e ∙ at-tab (L .cells) c (labelOf L) h
+      label-at c h = ap (λ (l : List ℕ). at l c) e ∙ tab-at (labelOf L) (L .cells) c 0 h

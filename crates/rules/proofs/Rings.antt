@@ -5,7 +5,7 @@ use mathlib.Core.Logic.{inl, inr, _⊎_}
 use mathlib.Core.Path.{ap, subst, sym, _∙_, _≡_}
 use Prim.Native.Nat.{max, min, suc, zero, ℕ, _+_, _-_, _<_, _≤_}
 use native.Mathlib.Omega.{arith}
-use Rattle.lists.proofs.Members.{keep-mem}
+use Rattle.lists.proofs.Keep.{keep-holds}
 use Rattle.lists.proofs.Tests.{eq-or-ne, lt-or-ge}
 use Rattle.lists.specs.Lists.{_∈_}
 use Rattle.rules.proofs.Chains.{by-edge, turned, _then_}
@@ -51,7 +51,7 @@ module _ (L : Land) (both : (a b : ℕ) → L .beside a b ≡ true → L .beside
       go (inr t) (inl e) l g = here (node-same L c d e)
       go (inr t) (inr n) (inl l) g =
           by-edge (record { lesser = c; greater = d })
-          (keep-mem _ (crossing L (record { lesser = c; greater = d }) (record {
+          (keep-holds _ (crossing L (record { lesser = c; greater = d }) (record {
             less = l;
             on-lo = s .on-one;
             on-hi = s .on-other;
@@ -61,7 +61,7 @@ module _ (L : Land) (both : (a b : ℕ) → L .beside a b ≡ true → L .beside
       go (inr t) (inr n) (inr l) (inl g) =
           turned
           (by-edge (record { lesser = d; greater = c })
-          (keep-mem _ (crossing L (record { lesser = d; greater = c }) (record {
+          (keep-holds _ (crossing L (record { lesser = d; greater = c }) (record {
             less = g;
             on-lo = s .on-other;
             on-hi = s .on-one;
@@ -95,7 +95,12 @@ module _ (L : Land) (both : (a b : ℕ) → L .beside a b ≡ true → L .beside
         (greatest : (j : ℕ) → j ≤ k → (j ≡ i → ⊥) → (node L (c j) ≡ node L (c (suc j)) → ⊥) → less L (ringPair j) (ringPair i) ≡ true) where
       one-step : (j : ℕ) → j ≤ k → (j ≡ i → ⊥) → Step (ringPair i) (c j) (c (suc j))
       one-step j l n =
-          record { on-one = R .on j l; on-other = on-all (suc j) (omega arith); beside = R .next j l; lesser = go (eq-or-ne (node L (c j)) (node L (c (suc j)))) }
+          record {
+            on-one = R .on j l;
+            on-other = on-all (suc j) (omega arith);
+            beside = R .next j l;
+            lesser = go (eq-or-ne (node L (c j)) (node L (c (suc j))));
+          }
         where
           go : (node L (c j) ≡ node L (c (suc j))) ⊎ (node L (c j) ≡ node L (c (suc j)) → ⊥)
               → (node L (c j) ≡ node L (c (suc j))) ⊎ (less L (ringPair j) (ringPair i) ≡ true)

@@ -22,30 +22,21 @@ bit-by false bit = omega arith
 pub bit-most : (a b : ℕ) → cond (eqb a b) 1 0 ≤ 1
 bit-most a b = bit-by (eqb a b) 1
 
--- nothing speaks against a pair, or something does
-none-against : (p q r : Bool) (f : ℕ) → cond p 1 0 + cond q 1 0 + cond r 1 0 ≡ 0 → cond (not p && (not q && not r)) f 0 ≡ f
-none-against false false false f e = refl
-none-against false false true f e = absurd (omega arith)
-none-against false true false f e = absurd (omega arith)
-none-against false true true f e = absurd (omega arith)
-none-against true false false f e = absurd (omega arith)
-none-against true false true f e = absurd (omega arith)
-none-against true true false f e = absurd (omega arith)
-none-against true true true f e = absurd (omega arith)
+-- three tests, counted: none holds exactly if their count is 0
+none-holds : (p q r : Bool) (f : ℕ) → cond (eqb (cond p 1 0 + cond q 1 0 + cond r 1 0) 0) f 0 ≡ cond (not p && (not q && not r)) f 0
+none-holds false false false f = refl
+none-holds false false true f = refl
+none-holds false true false f = refl
+none-holds false true true f = refl
+none-holds true false false f = refl
+none-holds true false true f = refl
+none-holds true true false f = refl
+none-holds true true true f = refl
 
-some-against : (p q r : Bool) (f : ℕ) → (cond p 1 0 + cond q 1 0 + cond r 1 0 ≡ 0 → ⊥) → cond (not p && (not q && not r)) f 0 ≡ 0
-some-against false false false f n = absurd (n refl)
-some-against false false true f n = refl
-some-against false true false f n = refl
-some-against false true true f n = refl
-some-against true q r f n = refl
-
-module _ (a b s x t y f : ℕ) where
-  pub kept-flag : cond (eqb a b) 1 0 + cond (eqb s x) 1 0 + cond (eqb t y) 1 0 ≡ 0 → f ≡ cond (keptBy a b s x t y) f 0
-  kept-flag e = sym (none-against (eqb a b) (eqb s x) (eqb t y) f e)
-
-  pub lost-flag : (cond (eqb a b) 1 0 + cond (eqb s x) 1 0 + cond (eqb t y) 1 0 ≡ 0 → ⊥) → 0 ≡ cond (keptBy a b s x t y) f 0
-  lost-flag n = sym (some-against (eqb a b) (eqb s x) (eqb t y) f n)
+-- what speaks against a pair, counted
+pub kept-flag : (a b s x t y f : ℕ) {p q r : ℕ} → p ≡ cond (eqb a b) 1 0 → q ≡ cond (eqb s x) 1 0 → r ≡ cond (eqb t y) 1 0
+    → (none : Bool) → eqb (p + q + r) 0 ≡ none → cond none f 0 ≡ cond (keptBy a b s x t y) f 0
+kept-flag a b s x t y f d e g none h = ap (λ (z : Bool). cond z f 0) (sym h) ∙ rw (d, e, g) (none-holds (eqb a b) (eqb s x) (eqb t y) f)
 
 module _ (S : Side) (n : ℕ) (labels : List ℕ) where
   module _ (squares : ℕ → ℕ) (c : ℕ) where

@@ -1,17 +1,31 @@
 -- The loop that packs the pairs of one cell after the other: two writes a turn, each counted if the cell's flag has its bit.
 -- Assumes nothing.
-use mathlib.Core.Bool.{cond}
-use mathlib.Core.List.{[], append-assoc, List, _++_, _∷_}
-use mathlib.Core.Path.{refl, subst, sym, _∙_, _≡_}
+use mathlib.Core.Bool.{Bool, cond}
+use mathlib.Core.List.{[], List, _++_, _∷_}
+use mathlib.Core.Path.{ap, refl, subst, sym, _∙_, _≡_}
 use Prim.Native.Nat.{ℕ, _%_, _*_, _+_, _/_, _<_, _≤_}
+use native.Mathlib.Nat.{zero-add}
 use native.Mathlib.Omega.{arith}
 use lib.Dec.{eqb}
 use lib.ListN.{length, length-set, set}
+use Rattle.lists.proofs.Keep.{keep-append}
 use Rattle.lists.proofs.Packs.{packs-bit, packs-none}
-use Rattle.lists.proofs.Parts.{flat-next}
-use Rattle.lists.specs.Lists.{flat, upto}
+use Rattle.lists.proofs.Range.{range-split}
+use Rattle.lists.specs.Lists.{keep, range, upto}
 use Rattle.lists.specs.Stores.{Packs}
-use Rattle.squares.specs.Squares.{pairsAt, pairsOf}
+use Rattle.squares.specs.Squares.{flagged, pairsOf}
+
+-- the next number, written and then counted if it passes the test
+packs-next : (t : ℕ → Bool) {l : List ℕ} {k : ℕ} (m b : ℕ) → t m ≡ eqb b 1 → b ≤ 1 → k < length l → Packs (keep t (upto m)) l k
+    → Packs (keep t (upto (m + 1))) (set l k m) (k + b)
+packs-next t {l} {k} m b e i h P = subst (λ (p : List ℕ). Packs p (set l k m) (k + b)) (sym next) (packs-bit m b P h i)
+  where
+    next : keep t (upto (m + 1)) ≡ keep t (upto m) ++ cond (eqb b 1) (m ∷ []) []
+    next =
+        ap (keep t) (range-split 0 m 1)
+        ∙ keep-append t (upto m) (range (0 + m) 1)
+        ∙ ap (λ (z : ℕ). keep t (upto m) ++ cond (t z) (z ∷ []) []) (zero-add m)
+        ∙ ap (λ (s : Bool). keep t (upto m) ++ cond s (m ∷ []) []) e
 
 -- the pairs of c cells are packed, and k is their number
 pub record Packing (flag : ℕ → ℕ) (old list : List ℕ) (k c : ℕ) : Type 0 where
@@ -25,37 +39,19 @@ packing-none flag old = record { long = refl; most = omega arith; packs = packs-
 
 pub packing-next : (flag : ℕ → ℕ) {old list : List ℕ} {k c : ℕ} → Packing flag old list k c → 2 * c + 2 ≤ length old → flag c < 4
     → Packing flag old (set (set list k (2 * c)) (k + flag c % 2) (2 * c + 1)) (k + flag c % 2 + flag c / 2) (c + 1)
-unfolding pairsOf pairsAt
+unfolding pairsOf
 packing-next flag {old} {list} {k} {c} P room h =
+    let a : 2 * c % 2 ≡ 0 = omega arith in let a′ : 2 * c / 2 ≡ c = omega arith in
+    let b : (2 * c + 1) % 2 ≡ 1 = omega arith in let b′ : (2 * c + 1) / 2 ≡ c = omega arith in
+    let n : 2 * c + 1 + 1 ≡ 2 * (c + 1) = omega arith in
+    let l = length-set list k (2 * c) in
     record {
-      long = length-set (set list k (2 * c)) (k + flag c % 2) (2 * c + 1) ∙ length-set list k (2 * c) ∙ P .long;
+      long = length-set (set list k (2 * c)) (k + flag c % 2) (2 * c + 1) ∙ l ∙ P .long;
       most = omega (arith, P .most);
-      packs = subst (λ (l : List ℕ). Packs l list″ (k + flag c % 2 + flag c / 2)) (append-assoc p a b ∙ sym next) two;
+      packs = rw (← n)
+          (packs-next (flagged flag) (2 * c + 1) (flag c / 2) (rw (b, b′)) (omega arith) (omega (arith, P .long, P .most))
+          (packs-next (flagged flag) (2 * c) (flag c % 2) (rw (a, a′)) (omega arith) (omega (arith, P .long, P .most)) (P .packs)));
     }
-  where
-    p : List ℕ
-    p = flat (pairsAt flag) (upto c)
-
-    a : List ℕ
-    a = cond (eqb (flag c % 2) 1) (2 * c ∷ []) []
-
-    b : List ℕ
-    b = cond (eqb (flag c / 2) 1) ((2 * c + 1) ∷ []) []
-
-    next : flat (pairsAt flag) (upto (c + 1)) ≡ p ++ (a ++ b)
-    next = flat-next (pairsAt flag) c
-
-    list′ : List ℕ
-    list′ = set list k (2 * c)
-
-    list″ : List ℕ
-    list″ = set (set list k (2 * c)) (k + flag c % 2) (2 * c + 1)
-
-    one : Packs (p ++ a) list′ (k + flag c % 2)
-    one = packs-bit (2 * c) (flag c % 2) (P .packs) (omega (arith, P .long, P .most)) (omega arith)
-
-    two : Packs ((p ++ a) ++ b) list″ (k + flag c % 2 + flag c / 2)
-    two = packs-bit (2 * c + 1) (flag c / 2) one (omega (arith, P .long, P .most, length-set list k (2 * c))) (omega arith)
 
 pub packing-all : (flag : ℕ → ℕ) {old list : List ℕ} {k c n : ℕ} → c ≡ n → Packing flag old list k c → Packs (pairsOf n flag) list k
 packing-all flag {list = list} {k = k} e P = subst (λ (z : ℕ). Packs (pairsOf z flag) list k) e (P .packs)

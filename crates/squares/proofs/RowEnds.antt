@@ -8,11 +8,11 @@ use native.Mathlib.Nat.{add-mod-right, mod-eq-of-lt, mod-lt}
 use native.Mathlib.Omega.{arith}
 use lib.ListN.{length, length-set, set}
 use lib.Seq.{getD-set-other, getD-set-same}
-use Rattle.lists.proofs.GridSides.{column-apart}
+use Rattle.grid.proofs.Rows.{column-apart}
+use Rattle.grid.specs.Window.{Rows}
 use Rattle.lists.proofs.Tests.{eq-or-ne, lt-or-ge}
 use Rattle.lists.specs.Lists.{at}
 use Rattle.squares.specs.Squares.{Ends}
-use Rattle.tiles.specs.Tile.{Grid}
 
 -- the ends of the rows before e are 0
 pub record Ending (w n : ℕ) (old new : List ℕ) (e : ℕ) : Type 0 where
@@ -21,10 +21,10 @@ pub record Ending (w n : ℕ) (old new : List ℕ) (e : ℕ) : Type 0 where
   pub last : (k : ℕ) → k < n → k < e → w ≤ k % w + 1 → at new k ≡ 0
   pub rest : (k : ℕ) → (n ≤ k) ⊎ (k % w + 1 < w) → at new k ≡ at old k
 
-module _ {w n : ℕ} (R : Grid w n) where
+module _ {w n : ℕ} (G : Rows w n) where
   pub ending-none : (old : List ℕ) → Ending w n old old (w - 1)
   ending-none old =
-      let h = R .wide in
+      let h = G .wide in
       let e : (w - 1) % w ≡ w - 1 = mod-eq-of-lt (omega arith) in
       record {
         long = refl;
@@ -50,9 +50,9 @@ module _ {w n : ℕ} (R : Grid w n) where
       go k i j q (inl s) t = subst (λ (z : ℕ). at (set new e 0) z ≡ 0) (sym s) (getD-set-same new e 0 0 (omega (arith, E .long)))
       go k i j q (inr s) (inl t) = getD-set-other new e k 0 0 s ∙ E .last k i t q
       go k i j q (inr s) (inr t) =
-          let m : k % w < w = mod-lt k (R .wide) in
+          let m : k % w < w = mod-lt k (G .wide) in
           let c = E .column in
-          absurd (column-apart w e k (R .wide) (omega arith) (omega arith) j)
+          absurd (column-apart w e k (G .wide) (omega arith) (omega arith) j)
 
   pub ending-all : {old new : List ℕ} (e : ℕ) → n ≤ e → Ending w n old new e → Ends w n old new
   ending-all e h E = record { long = E .long; last = λ k i q. E .last k i (omega arith) q; rest = E .rest }

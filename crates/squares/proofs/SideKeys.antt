@@ -2,7 +2,7 @@
 -- its crossing is greater than those of the others; and the four sides are a ring.
 -- Assumes nothing.
 use mathlib.Core.Bool.{Bool, cond, false, true}
-use mathlib.Core.List.{List}
+use mathlib.Core.List.{List, List·Memᴰ·head as in-head, List·Memᴰ·tail as in-tail}
 use mathlib.Core.Logic.{inl, inr, _⊎_}
 use mathlib.Core.Path.{ap, refl, subst, sym, _∙_, _≡_}
 use Prim.Native.Nat.{max, suc, zero, ℕ, _%_, _*_, _+_, _<_, _≤_}
@@ -11,18 +11,24 @@ use native.Mathlib.Omega.{arith}
 use lib.Dec.{eqb}
 use lib.ListN.{length}
 use borrow.Author.Tests.{ne-eqb}
-use Rattle.lists.proofs.GridSides.{downward, right-on, rightward, Towards}
-use Rattle.lists.proofs.Tests.{eq, eq-or-ne, gt, lt, three, Three}
+use Rattle.grid.proofs.Rows.{right-on}
+use Rattle.grid.proofs.Rules.{sides-rule}
+use Rattle.grid.proofs.Sides.{below-stands, right-stands}
+use Rattle.grid.proofs.Window.{beside-mutual, stands-beside}
+use Rattle.grid.specs.Window.{sides}
+use Rattle.lists.proofs.Tests.{eq-or-ne}
 use Rattle.lists.specs.Lists.{at, _∈_}
-use Rattle.rules.proofs.CrossingOrder.{by-greater, by-height, by-lesser, Less, Less→less}
+use Rattle.pairs.proofs.PairOrder.{CellsLess, less-by}
 use Rattle.rules.proofs.Rings.{pair-of-greater, pair-of-less, pairOf, Ring, ring-greatest}
-use Rattle.rules.proofs.TileLawful.{sides-mutual, →side}
-use Rattle.rules.specs.Land.{Land}
+use Rattle.rules.specs.Land.{Land, rule4}
 use Rattle.rules.specs.NodeLabels.{Labelled}
 use Rattle.rules.specs.Passes.{chosen, Crossing, crossingHeight, less, node}
+use Rattle.rules.specs.Tile.{Tile, tileLand}
 use Rattle.squares.specs.Squares.{greatestSide, keyBetween, sideKey}
-use Rattle.tiles.proofs.Sides.{towards-side}
-use Rattle.tiles.specs.Tile.{Tile, tileLand}
+
+-- two cells as a crossing
+abbrev pub pair : ℕ → ℕ → Crossing
+pair a b = record { lesser = a; greater = b }
 
 -- what holds of each side
 four : (P : ℕ → Type 0) → P 0 → P 1 → P 2 → P 3 → (s : ℕ) → s < 4 → P s
@@ -70,38 +76,37 @@ module _ (k : ℕ → ℕ) (tells : (i : ℕ) → i < 4 → Keyed (k i) i) where
           let q : i ≡ s = sym p ∙ ap (λ (x : ℕ). x % 4) (sym e) ∙ t in
           omega (arith, at-most j h, e, ap k q)
 
--- the sides in the order of the way round, and the place of each
+-- the sides in the order of the way round, and the step of each
 abbrev sideOf : ℕ → ℕ
 sideOf zero = 0
 sideOf (suc zero) = 2
 sideOf (suc (suc zero)) = 3
 sideOf (suc (suc (suc j))) = 1
 
-abbrev placeOf : ℕ → ℕ
-placeOf zero = 0
-placeOf (suc zero) = 3
-placeOf (suc (suc zero)) = 1
-placeOf (suc (suc (suc s))) = 2
+abbrev stepOf : ℕ → ℕ
+stepOf zero = 0
+stepOf (suc zero) = 3
+stepOf (suc (suc zero)) = 1
+stepOf (suc (suc (suc s))) = 2
 
 module _ (w c : ℕ) where
   -- the two cells of each side of the square that begins at c
-  abbrev pub sideLesser : ℕ → ℕ
+  abbrev sideLesser : ℕ → ℕ
   sideLesser zero = c
   sideLesser (suc zero) = c
   sideLesser (suc (suc zero)) = c + 1
   sideLesser (suc (suc (suc s))) = c + w
 
-  abbrev pub sideGreater : ℕ → ℕ
+  abbrev sideGreater : ℕ → ℕ
   sideGreater zero = c + 1
   sideGreater (suc zero) = c + w
   sideGreater (suc (suc s)) = c + w + 1
 
   abbrev pub sidePair : ℕ → Crossing
-  sidePair s = record { lesser = sideLesser s; greater = sideGreater s }
+  sidePair s = pair (sideLesser s) (sideGreater s)
 
   -- sides are numbered as their cells are
-  side-order : 1 < w → (i j : ℕ) → i < j → j < 4
-      → (sideLesser i < sideLesser j) ⊎ ((sideLesser i ≡ sideLesser j) × (sideGreater i < sideGreater j))
+  side-order : 1 < w → (i j : ℕ) → i < j → j < 4 → CellsLess (sidePair i) (sidePair j)
   side-order v zero zero h k = absurd (omega arith)
   side-order v zero (suc zero) h k = inr (refl, omega arith)
   side-order v zero (suc (suc zero)) h k = inl (omega arith)
@@ -117,81 +122,72 @@ module _ (w c : ℕ) where
   side-order v (suc (suc (suc i))) j h k = absurd (omega arith)
 
   -- the square's cells, once round from c back to c
-  abbrev around : ℕ → ℕ
-  around zero = c
-  around (suc zero) = c + 1
-  around (suc (suc zero)) = c + w + 1
-  around (suc (suc (suc zero))) = c + w
-  around (suc (suc (suc (suc j)))) = c
+  abbrev corner : ℕ → ℕ
+  corner zero = c
+  corner (suc zero) = c + 1
+  corner (suc (suc zero)) = c + w + 1
+  corner (suc (suc (suc zero))) = c + w
+  corner (suc (suc (suc (suc j)))) = c
 
-  around-side : 0 < w → (j : ℕ) → j < 4 → pairOf (around j) (around (suc j)) ≡ sidePair (sideOf j)
-  around-side v =
-      four (λ j. pairOf (around j) (around (suc j)) ≡ sidePair (sideOf j))
+  corner-side : 0 < w → (j : ℕ) → j < 4 → pairOf (corner j) (corner (suc j)) ≡ sidePair (sideOf j)
+  corner-side v =
+      four (λ j. pairOf (corner j) (corner (suc j)) ≡ sidePair (sideOf j))
       (pair-of-less c (c + 1) (omega arith))
       (pair-of-less (c + 1) (c + w + 1) (omega arith))
       (pair-of-greater (c + w + 1) (c + w) (omega arith))
       (pair-of-greater (c + w) c (omega arith))
 
--- a lesser key is a lesser crossing
-module _ (L : Land) (x y : Crossing) (i j : ℕ) (few : j < 4)
-    (sides : i < j → (x .lesser < y .lesser) ⊎ ((x .lesser ≡ y .lesser) × (x .greater < y .greater))) where
-  key-less : 4 * crossingHeight L x + i < 4 * crossingHeight L y + j → less L x y ≡ true
-  key-less h = Less→less L x y (go (three (crossingHeight L x) (crossingHeight L y)))
-    where
-      tie : crossingHeight L x ≡ crossingHeight L y
-          → (x .lesser < y .lesser) ⊎ ((x .lesser ≡ y .lesser) × (x .greater < y .greater)) → Less L x y
-      tie e (inl l) = by-lesser e l
-      tie e (inr (p, q)) = by-greater e p q
-
-      go : Three (crossingHeight L x) (crossingHeight L y) → Less L x y
-      go (lt k) = by-height k
-      go (eq e) = tie e (sides (omega arith))
-      go (gt k) = absurd (omega arith)
-
 -- the square that begins at c
-module _ (w : ℕ) (heights marks labels : List ℕ) (T : Tile w heights marks) (B : Labelled (tileLand w heights marks) labels)
+module _ (w : ℕ) (heights marks labels : List ℕ) (T : Tile w heights marks) (B : Labelled (tileLand rule4 w heights marks) labels)
     (c : ℕ) (col : c % w + 1 < w) (low : c + w < length heights) where
   abbrev L : Land
-  L = tileLand w heights marks
+  L = tileLand rule4 w heights marks
+
+  abbrev n : ℕ
+  n = length heights
 
   both : (a b : ℕ) → L .beside a b ≡ true → L .beside b a ≡ true
-  both = sides-mutual w (length heights) heights marks
+  both a b t = beside-mutual sides w a b sides-rule t
 
   col-below : (c + w) % w + 1 < w
   col-below = subst (λ (m : ℕ). m + 1 < w) (sym (add-mod-right c w)) col
 
-  last-on : c + w + 1 < length heights
-  last-on = right-on (length heights) w (c + w) (T .whole) low col-below
+  last-on : c + w + 1 < n
+  last-on = right-on n w (c + w) (T .grid .rows .whole) low col-below
 
-  beside : (a b : ℕ) → Towards w a b → L .beside a b ≡ true
-  beside a b t = →side w a b (towards-side w a b (T .wide) t)
+  to-right : (a : ℕ) → a < n → a % w + 1 < w → L .beside a (a + 1) ≡ true
+  to-right a h k = stands-beside (right-stands (T .grid .rows) h k) {places = sides} (in-tail (in-tail (in-head refl)))
 
-  ring : Ring L both (around w c) 3
+  to-below : (a b : ℕ) → b < n → a + w ≡ b → L .beside a b ≡ true
+  to-below a b h e =
+      subst (λ (x : ℕ). L .beside a x ≡ true) e
+      (stands-beside (below-stands (T .grid .rows) (omega arith) (omega arith)) {places = sides} (in-tail (in-tail (in-tail (in-head refl)))))
+
+  ring : Ring L both (corner w c) 3
   ring =
       record {
         closed = refl;
-        on = λ j h.
-            four (λ i. around w c i < length heights) (omega (arith, last-on)) (omega (arith, last-on)) last-on low j (omega arith);
+        on = λ j h. four (λ i. corner w c i < n) (omega (arith, last-on)) (omega (arith, last-on)) last-on low j (omega arith);
         next = λ j h.
-            four (λ i. L .beside (around w c i) (around w c (suc i)) ≡ true)
-            (beside c (c + 1) (rightward col refl))
-            (beside (c + 1) (c + w + 1) (downward (omega arith)))
-            (both (c + w) (c + w + 1) (beside (c + w) (c + w + 1) (rightward col-below refl)))
-            (both c (c + w) (beside c (c + w) (downward refl)))
+            four (λ i. L .beside (corner w c i) (corner w c (suc i)) ≡ true)
+            (to-right c (omega arith) col)
+            (to-below (c + 1) (c + w + 1) last-on (omega arith))
+            (both (c + w) (c + w + 1) (to-right (c + w) low col-below))
+            (both c (c + w) (to-below c (c + w) low refl))
             j (omega arith);
       }
 
   -- the labels of side s differ
-  abbrev pub Differ : ℕ → Type 0
+  abbrev Differ : ℕ → Type 0
   Differ s = at labels (sideLesser w c s) ≡ at labels (sideGreater w c s) → ⊥
 
-  nodes-differ : (j : ℕ) → j < 4 → (node L (around w c j) ≡ node L (around w c (suc j)) → ⊥) → Differ (sideOf j)
+  nodes-differ : (j : ℕ) → j < 4 → (node L (corner w c j) ≡ node L (corner w c (suc j)) → ⊥) → Differ (sideOf j)
   nodes-differ =
-      four (λ j. (node L (around w c j) ≡ node L (around w c (suc j)) → ⊥) → Differ (sideOf j))
-      (λ n e. n (B .same c (c + 1) (omega (arith, last-on)) (omega (arith, last-on)) e))
-      (λ n e. n (B .same (c + 1) (c + w + 1) (omega (arith, last-on)) last-on e))
-      (λ n e. n (sym (B .same (c + w) (c + w + 1) low last-on e)))
-      (λ n e. n (sym (B .same c (c + w) (omega arith) low e)))
+      four (λ j. (node L (corner w c j) ≡ node L (corner w c (suc j)) → ⊥) → Differ (sideOf j))
+      (λ z e. z (B .same c (c + 1) (omega (arith, last-on)) (omega (arith, last-on)) e))
+      (λ z e. z (B .same (c + 1) (c + w + 1) (omega (arith, last-on)) last-on e))
+      (λ z e. z (sym (B .same (c + w) (c + w + 1) low last-on e)))
+      (λ z e. z (sym (B .same c (c + w) (omega arith) low e)))
 
   abbrev keyOf : ℕ → ℕ
   keyOf s = keyBetween w heights labels (sideLesser w c s) (sideGreater w c s) s
@@ -212,30 +208,31 @@ module _ (w : ℕ) (heights marks labels : List ℕ) (T : Tile w heights marks) 
 
   side-less : (i s : ℕ) → i < 4 → s < 4 → (i ≡ s → ⊥) → Differ i → Differ s → keyOf i ≤ keyOf s
       → less L (sidePair w c i) (sidePair w c s) ≡ true
-  side-less i s h few n d e k =
-      key-less L (sidePair w c i) (sidePair w c s) i s few (λ l. side-order w c (omega arith) i s l few)
-      (omega (arith, key-is i d, key-is s e))
+  side-less i s h few z d e k =
+      let a = key-is i d in
+      let b = key-is s e in
+      less-by L (sidePair w c i) (sidePair w c s) (omega arith) (λ q. side-order w c (omega arith) i s (omega arith) few)
 
   -- its greatest crossing is no chosen pass
   pub greatest-never : (s : ℕ) → s < 4 → greatestSide w heights labels c ≡ s → Differ s → sidePair w c s ∈ chosen L → ⊥
   greatest-never s few e d m =
-      ring-greatest L both (around w c) 3 ring (placeOf s) place-most greatest (subst (λ (x : Crossing). x ∈ chosen L) (sym here) m)
+      ring-greatest L both (corner w c) 3 ring (stepOf s) step-most greatest (subst (λ (x : Crossing). x ∈ chosen L) (sym here) m)
     where
-      place-most : placeOf s ≤ 3
-      place-most = four (λ i. placeOf i ≤ 3) (omega arith) (omega arith) (omega arith) (omega arith) s few
+      step-most : stepOf s ≤ 3
+      step-most = four (λ i. stepOf i ≤ 3) (omega arith) (omega arith) (omega arith) (omega arith) s few
 
-      here : pairOf (around w c (placeOf s)) (around w c (suc (placeOf s))) ≡ sidePair w c s
+      here : pairOf (corner w c (stepOf s)) (corner w c (suc (stepOf s))) ≡ sidePair w c s
       here =
-          around-side w c (T .wide) (placeOf s) (omega (arith, place-most))
-          ∙ ap (sidePair w c) (four (λ i. sideOf (placeOf i) ≡ i) refl refl refl refl s few)
+          corner-side w c (T .grid .rows .wide) (stepOf s) (omega (arith, step-most))
+          ∙ ap (sidePair w c) (four (λ i. sideOf (stepOf i) ≡ i) refl refl refl refl s few)
 
-      greatest : (j : ℕ) → j ≤ 3 → (j ≡ placeOf s → ⊥) → (node L (around w c j) ≡ node L (around w c (suc j)) → ⊥)
-          → less L (pairOf (around w c j) (around w c (suc j))) (pairOf (around w c (placeOf s)) (around w c (suc (placeOf s)))) ≡ true
-      greatest j h n a =
+      greatest : (j : ℕ) → j ≤ 3 → (j ≡ stepOf s → ⊥) → (node L (corner w c j) ≡ node L (corner w c (suc j)) → ⊥)
+          → less L (pairOf (corner w c j) (corner w c (suc j))) (pairOf (corner w c (stepOf s)) (corner w c (suc (stepOf s)))) ≡ true
+      greatest j h z a =
           let k : j < 4 = omega arith in
           let l : sideOf j < 4 = four (λ q. sideOf q < 4) (omega arith) (omega arith) (omega arith) (omega arith) j k in
-          let back : placeOf (sideOf j) ≡ j = four (λ q. placeOf (sideOf q) ≡ q) refl refl refl refl j k in
-          subst (λ (x : Crossing). less L x (pairOf (around w c (placeOf s)) (around w c (suc (placeOf s)))) ≡ true)
-          (sym (around-side w c (T .wide) j k))
+          let back : stepOf (sideOf j) ≡ j = four (λ q. stepOf (sideOf q) ≡ q) refl refl refl refl j k in
+          subst (λ (x : Crossing). less L x (pairOf (corner w c (stepOf s)) (corner w c (suc (stepOf s)))) ≡ true)
+          (sym (corner-side w c (T .grid .rows .wide) j k))
           (subst (λ (x : Crossing). less L (sidePair w c (sideOf j)) x ≡ true) (sym here)
-          (side-less (sideOf j) s l few (λ q. n (sym back ∙ ap placeOf q)) (nodes-differ j k a) d (key-most s (sideOf j) l e)))
+          (side-less (sideOf j) s l few (λ q. z (sym back ∙ ap stepOf q)) (nodes-differ j k a) d (key-most s (sideOf j) l e)))

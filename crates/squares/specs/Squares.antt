@@ -5,13 +5,13 @@
 -- (rules/proofs/Rings). A basin goes by its label here: two cells have one label exactly if their basins are one node of rule 4.
 -- Assumes nothing.
 use mathlib.Core.Bool.{Bool, cond, not, _&&_}
-use mathlib.Core.List.{[], List, _++_, _∷_}
+use mathlib.Core.List.{List}
 use mathlib.Core.Logic.{_⊎_}
 use mathlib.Core.Path.{_≡_}
-use Prim.Native.Nat.{max, ℕ, _%_, _*_, _+_, _-_, _/_, _<_, _≤_}
+use Prim.Native.Nat.{max, suc, zero, ℕ, _%_, _*_, _+_, _-_, _/_, _<_, _≤_}
 use lib.Dec.{eqb, ltb}
 use lib.ListN.{length}
-use Rattle.lists.specs.Lists.{at, flat, upto}
+use Rattle.lists.specs.Lists.{at, keep, upto}
 use Rattle.squares.specs.declared.Side.{Side}
 
 -- a side as a key: 0 where its two cells have one label, otherwise 4 times the crossing's height and the side's number.
@@ -39,12 +39,10 @@ module _ (w : ℕ) (heights labels : List ℕ) where
 abbrev pub margined : (ℕ → ℕ) → ℕ → ℕ
 margined square i = cond (ltb i 64) 4 (square (i - 64))
 
--- the pairs to the right and below, on a tile w wide
-abbrev pub right : ℕ → Side
-right w = record { on = 1; back = w; here = 0; there = 3; bit = 1 }
-
-abbrev pub below : ℕ → Side
-below w = record { on = w; back = 1; here = 1; there = 2; bit = 2 }
+-- a cell's pairs by number, on a tile w wide: to the right, and below
+abbrev pub sideAt : (w i : ℕ) → Side
+sideAt w zero = record { on = 1; back = w; here = 0; there = 3; bit = 1 }
+sideAt w (suc i) = record { on = w; back = 1; here = 1; there = 2; bit = 2 }
 
 -- two labels differ, and neither of two squares has the pair as its greatest
 abbrev pub keptBy : (a b s x t y : ℕ) → Bool
@@ -61,13 +59,17 @@ module _ (S : Side) (n : ℕ) (labels : List ℕ) (squares : ℕ → ℕ) where
   abbrev pub flag : ℕ → ℕ
   flag c = cond (keeps c) (S .bit) 0
 
--- the pairs whose lesser cell is c, by its flag
-unfoldable pub pairsAt : (ℕ → ℕ) → ℕ → List ℕ
-pairsAt flags c = cond (eqb (flags c % 2) 1) (2 * c ∷ []) [] ++ cond (eqb (flags c / 2) 1) ((2 * c + 1) ∷ []) []
+-- the bit of a flag that says of its cell's pair number i whether it is kept
+abbrev pub bitAt : (i flag : ℕ) → ℕ
+bitAt zero flag = flag % 2
+bitAt (suc i) flag = flag / 2
 
--- the pairs of n cells, ascending
+abbrev pub flagged : (ℕ → ℕ) → ℕ → Bool
+flagged flags p = eqb (bitAt (p % 2) (flags (p / 2))) 1
+
+-- the flagged pairs of n cells, ascending
 unfoldable pub pairsOf : ℕ → (ℕ → ℕ) → List ℕ
-pairsOf n flags = flat (pairsAt flags) (upto n)
+pairsOf n flags = keep (flagged flags) (upto (2 * n))
 
 -- the entry that ends each row is 0, and every other is as it was
 pub record Ends (w n : ℕ) (old new : List ℕ) : Type 0 where

@@ -5,11 +5,12 @@ ghost use mathlib.Core.Path.{_≡_};
 ghost use Prim.Native.Nat.{max, ℕ, _*_, _+_, _-_, _<_, _≤_};
 ghost use lib.Dec.{eqb};
 ghost use lib.ListN.{length};
+ghost use Rattle.grid.specs.Window.{Grid};
 ghost use Rattle.lists.specs.Lists.{at, filled};
 ghost use Rattle.lists.specs.Stores.{Packs, Puts};
+ghost use Rattle.rules.specs.Land.{rule4};
 ghost use Rattle.squares.specs.Listing.{Listable, Listed};
 ghost use Rattle.squares.specs.Squares.{Ends, flag, greatestSide, Keyable, keptBy, margined, pairsOf, sideKey, squareAt};
-ghost use Rattle.tiles.specs.Tile.{Grid};
 use lists::most_u32;
 
 // One of a cell's pairs: with the cell `on` places further. It is side `here` of the square that begins at the cell, and side `there` of
@@ -186,8 +187,8 @@ fn compress(n: usize, flags: &[u8], list: &mut [u16]) -> usize
 
 // Enough crossings of a tile as pairs at the start of the list, ascending. Gives their number.
 pub fn list_pairs(w: usize, heights: &[u32], labels: &[u16], list: &mut [u16]) -> usize
-    requires { ⌜ Listable w (now heights) (now labels) (now list) ⌝ }
-    ensures { λ r. ⌜ Listed w (now (heights .entry)) (now (labels .entry)) (now (list .exit)) r ⌝ }
+    requires { ⌜ Listable rule4 w (now heights) (now labels) (now list) ⌝ }
+    ensures { λ r. ⌜ Listed rule4 w (now (heights .entry)) (now (labels .entry)) (now (list .exit)) r ⌝ }
 {
     let n = heights.len();
     let mut sq = [4u8; 4160];

@@ -6,17 +6,17 @@ use mathlib.Core.Path.{ap, refl, _∙_, _≡_}
 use Prim.Native.Nat.{ℕ}
 use lib.Dec.{eqb}
 use lib.ListN.{length}
-use Rattle.lists.proofs.Entries.{keep-all, map-same}
-use Rattle.lists.proofs.Members.{mem-keep}
-use Rattle.lists.proofs.Ranges.{at-tab, mem-upto}
-use Rattle.lists.proofs.Tables.{tab-is}
+use Rattle.lists.proofs.Keep.{keep-all, keep-member}
+use Rattle.lists.proofs.Map.{map-same}
+use Rattle.lists.proofs.Range.{upto-below}
+use Rattle.lists.proofs.Tab.{tab-at, tab-is}
 use Rattle.lists.specs.Lists.{at, keep, sum, tab, upto}
 use Rattle.rules.proofs.Demand3Holds.{tile-demand-3}
 use Rattle.rules.specs.Carving.{receivers}
 use Rattle.rules.specs.FirstWays.{solidCells}
 use Rattle.rules.specs.Ground.{cellsOf, Drainable, Ground}
 use Rattle.rules.specs.Land.{Land, land4}
-use Rattle.rules.specs.Network.{drainage, network, networkOf, outlets}
+use Rattle.rules.specs.Network.{drainage, liftedNetwork, network, networkOf, outlets}
 use Rattle.text.specs.Text.{outletDrainage}
 
 -- the sum over a table's entries
@@ -25,12 +25,12 @@ outlets-table : (f : ℕ → ℕ) (marks : List ℕ) (n : ℕ)
 unfolding outletDrainage
 outlets-table f marks n =
     let p : ℕ → Bool = λ c. eqb (at marks c) 1 in
-    ap sum (map-same (at (tab n f)) f (keep p (upto n)) (λ c m. at-tab n c f (mem-upto (mem-keep p (upto n) m .0))))
+    ap sum (map-same (at (tab n f)) f (keep p (upto n)) (λ c m. tab-at f n c 0 (upto-below (keep-member p (upto n) m .0))))
 
 -- on the network of a ground that drains, with water for each cell
 pub sums-agree : (g : Ground) → Drainable g → length (g .water) ≡ cellsOf g
-    → outletDrainage (network g .drainageList) (g .marks) (cellsOf g) ≡ sum (g .water)
-unfolding network networkOf outlets solidCells
+    → outletDrainage (network g .drainage) (g .marks) (cellsOf g) ≡ sum (g .water)
+unfolding network networkOf liftedNetwork outlets solidCells
 sums-agree g o full =
     let L : Land = land4 g in
     let n : ℕ = cellsOf g in

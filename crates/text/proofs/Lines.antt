@@ -5,11 +5,12 @@ use mathlib.Core.Path.{ap, sym, _∙_, _≡_}
 use Prim.Native.Nat.{suc, ℕ, _+_, _-_, _<_, _≤_}
 use native.Mathlib.Omega.{arith}
 use lib.IntN.{pos, ℤ}
-use lib.ListN.{getD, length, length-append}
+use lib.ListN.{getD, length, length-append, length-take, take}
+use lib.Seq.{getD-take}
 use borrow.Author.Tests.{le-leb, lt-leb}
-use Rattle.lists.proofs.Parts.{flat-append, flat-next}
-use Rattle.lists.proofs.Ranges.{range-split}
-use Rattle.lists.proofs.Tables.{getD-map}
+use Rattle.lists.proofs.Flat.{flat-append, flat-next, flat-same}
+use Rattle.lists.proofs.Map.{map-at}
+use Rattle.lists.proofs.Range.{range-split, upto-below}
 use Rattle.lists.specs.Lists.{at, flat, range, upto}
 use Rattle.rules.specs.Ground.{dropped}
 use Rattle.text.specs.Text.{cellLine, cellLines, decimal, pairLine, refusedText, signedDecimal, sizeLine, sumsLine}
@@ -56,7 +57,7 @@ unfolding cellLines
 cellLines-none receivers levels drainage = omega arith
 
 -- the lines of one cell more
-pub cellLines-next : (receivers : List ℕ) (levels : List ℤ) (drainage : List ℕ) (n : ℕ)
+cellLines-next : (receivers : List ℕ) (levels : List ℤ) (drainage : List ℕ) (n : ℕ)
     → cellLines receivers levels drainage n ++ cellLine n (at receivers n) (getD levels n (pos 0)) (at drainage n)
     ≡ cellLines receivers levels drainage (n + 1)
 unfolding cellLines
@@ -68,8 +69,25 @@ pub cellLines-lifted : (receivers levels drainage : List ℕ) (n : ℕ) → n < 
     ≡ cellLines receivers (map dropped levels) drainage (n + 1)
 cellLines-lifted receivers levels drainage n h =
     ap (λ (z : ℤ). cellLines receivers (map dropped levels) drainage n ++ cellLine n (at receivers n) z (at drainage n))
-    (sym (getD-map dropped levels n 0 (pos 0) h))
+    (sym (map-at dropped levels n 0 (pos 0) h))
     ∙ cellLines-next receivers (map dropped levels) drainage n
+
+-- the first n entries of longer lists say the same
+pub cellLines-first : (receivers levels drainage : List ℕ) (n : ℕ) → n ≤ length levels
+    → cellLines (take n receivers) (map dropped (take n levels)) (take n drainage) n ≡ cellLines receivers (map dropped levels) drainage n
+unfolding cellLines
+cellLines-first receivers levels drainage n h =
+    flat-same (λ c. cellLine c (at (take n receivers) c) (getD (map dropped (take n levels)) c (pos 0)) (at (take n drainage) c))
+    (λ c. cellLine c (at receivers c) (getD (map dropped levels) c (pos 0)) (at drainage c)) (upto n) (λ c m. same c (upto-below m))
+  where
+    same : (c : ℕ) → c < n
+        → cellLine c (at (take n receivers) c) (getD (map dropped (take n levels)) c (pos 0)) (at (take n drainage) c)
+        ≡ cellLine c (at receivers c) (getD (map dropped levels) c (pos 0)) (at drainage c)
+    same c k =
+        let l : c < length (take n levels) = simp length-take (omega arith) in
+        let level = map-at dropped (take n levels) c 0 (pos 0) l in
+        let here = map-at dropped levels c 0 (pos 0) (omega arith) in
+        rw (getD-take n receivers c 0 k, getD-take n drainage c 0 k, level, getD-take n levels c 0 k, here)
 
 -- fewer cells take fewer bytes
 pub cellLines-within : (receivers : List ℕ) (levels : List ℤ) (drainage : List ℕ) (k n : ℕ) → k ≤ n

@@ -9,9 +9,10 @@ use native.Mathlib.Numerals.{add-one}
 use native.Mathlib.Omega.{arith}
 use lib.Dec.{eqb}
 use lib.ListN.{length, take}
-use lib.Seq.{take-suc}
-use Rattle.lists.proofs.Ranges.{keep-append, range-split}
-use Rattle.lists.proofs.Sums.{sum-append}
+use lib.Seq.{getD-take, take-suc}
+use Rattle.lists.proofs.Keep.{keep-append}
+use Rattle.lists.proofs.Range.{range-split}
+use Rattle.lists.proofs.Sum.{sum-append}
 use Rattle.lists.specs.Lists.{at, keep, sum, upto}
 use Rattle.text.specs.Text.{outletDrainage}
 
@@ -40,6 +41,18 @@ outletDrainage-none : (drainage marks : List ℕ) → outletDrainage drainage ma
 unfolding outletDrainage
 outletDrainage-none drainage marks = omega arith
 
+-- the first n entries of longer lists say the same of their first k cells
+pub outletDrainage-first : (drainage marks : List ℕ) (n k : ℕ) → k ≤ n
+    → outletDrainage (take n drainage) (take n marks) k ≡ outletDrainage drainage marks k
+outletDrainage-first drainage marks n zero h =
+    let a = outletDrainage-none (take n drainage) (take n marks) in
+    let b = outletDrainage-none drainage marks in
+    omega arith
+outletDrainage-first drainage marks n (suc k) h =
+    let e : outletDrainage (take n drainage) (take n marks) k ≡ outletDrainage drainage marks k =
+    outletDrainage-first drainage marks n k (omega arith) in
+    rw (← add-one k, outletDrainage-next, e, getD-take n marks k 0 h, getD-take n drainage k 0 h, ← outletDrainage-next drainage marks k)
+
 -- no more than all cells can have
 pub outletDrainage-most : (drainage marks : List ℕ) (n : ℕ) → ((c : ℕ) → at drainage c < 4294967296)
     → outletDrainage drainage marks n ≤ 4294967295 * n
@@ -54,9 +67,10 @@ outletDrainage-most drainage marks (suc n) h =
     share true l = l
     share false l = omega arith
 
-pub sum-most : (l : List ℕ) → ((c : ℕ) → at l c < 65536) → sum l ≤ 65535 * length l
-sum-most [] h = omega arith
-sum-most (x ∷ xs) h =
-    let a : x < 65536 = h 0 in
-    let b : sum xs ≤ 65535 * length xs = sum-most xs (λ c. h (suc c)) in
-    omega arith
+pub sum-most : (l : List ℕ) (n : ℕ) → n ≤ length l → ((c : ℕ) → at l c < 65536) → sum (take n l) ≤ 65535 * n
+sum-most l zero k h = omega arith
+sum-most l (suc n) k h =
+    rw (← add-one n, sum-next l n (omega arith))
+    (let a : at l n < 65536 = h n in
+    let b : sum (take n l) ≤ 65535 * n = sum-most l n (omega arith) h in
+    omega arith)

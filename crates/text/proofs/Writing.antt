@@ -1,18 +1,18 @@
 -- Texts written one after the other.
 -- Assumes nothing.
-use mathlib.Core.List.{[], append-assoc, List, _++_, _∷_}
+use mathlib.Core.List.{[], List, _++_, _∷_}
 use mathlib.Core.Path.{ap, refl, subst, sym, _∙_, _≡_}
 use Prim.Native.Nat.{ℕ, _+_, _<_, _≤_}
 use native.Mathlib.Nat.{add-zero, zero-add}
 use native.Mathlib.Omega.{arith}
-use lib.ListN.{drop, length, length-append, length-drop, set, take, take-append-drop}
+use lib.ListN.{length, length-append, length-drop, set, take-append-drop}
 use lib.Seq.{length-take-le}
-use Rattle.lists.proofs.Lent.{sets-stored, stored-next}
-use Rattle.lists.specs.Lent.{stored}
-use Rattle.text.specs.Writing.{Printed, Room, Wrote}
+use Rattle.lists.proofs.Stored.{stored-on, stored-sets}
+use Rattle.lists.specs.Lists.{stored}
+use Rattle.text.specs.Writing.{Printed, Fits, Wrote}
 
 -- a list is as long as it was
-length-stored : (from : ℕ) (new old : List ℕ) → Room from new old → length (stored from new old) ≡ length old
+length-stored : (from : ℕ) (new old : List ℕ) → Fits from new old → length (stored from new old) ≡ length old
 length-stored from new old h =
     let l : from ≤ length old = omega arith in
     simp (length-append, length-take-le from old l, length-drop) (omega arith)
@@ -23,7 +23,7 @@ wrote-none old from h = record { bytes = sym (rw (add-zero, take-append-drop)); 
 
 -- one byte
 pub wrote-byte : (old : List ℕ) (from b : ℕ) → from < length old → Wrote from (b ∷ []) old (set old from b) (from + 1)
-wrote-byte old from b h = record { bytes = sets-stored old from (b ∷ []) (omega arith); end = refl; within = omega arith }
+wrote-byte old from b h = record { bytes = stored-sets old from (b ∷ []) (omega arith); end = refl; within = omega arith }
 
 -- a text, and another right after it
 pub wrote-then : {from middle to : ℕ} {a b new old mid text : List ℕ} → Wrote from a old mid middle → Wrote middle b mid text to
@@ -33,14 +33,12 @@ wrote-then {from} {middle} {to} {a} {b} {new} {old} {mid} {text} v w e =
     let room : from + length a ≤ length old = omega (arith, v .within) in
     let l : from ≤ length old = omega arith in
     let n : length new ≡ length a + length b = ap length (sym e) ∙ length-append a b in
-    let p : length (take from old ++ a) ≡ middle = length-append (take from old) a ∙ rw (length-take-le from old l) (sym m) in
     let q : middle + length b ≡ from + length new = omega arith in
-    let f : mid ≡ (take from old ++ a) ++ drop middle old = v .bytes ∙ rw (append-assoc, m) in
     let k : length mid ≡ length old = ap length (v .bytes) ∙ length-stored from a old room in
     record {
       bytes =
-          stored-next (take from old ++ a) b old middle (from + length new) p q f (w .bytes)
-          ∙ rw (append-assoc, append-assoc, ← e, append-assoc);
+          stored-on a b old from middle (sym m) (omega (arith, w .within, w .end)) (v .bytes) (w .bytes)
+          ∙ ap (λ (z : List ℕ). stored from z old) e;
       end = w .end ∙ q;
       within = omega (arith, w .within);
     }

@@ -6,16 +6,13 @@ use lib.IntN.{negsuc, pos}
 use Rattle.rules.specs.Carving.{allBut, carved, farCell, firstWay, leadsOut, nearCell, outflows, previous, receiver, receivers}
 use Rattle.rules.specs.Chain.{join, joined, labels}
 use Rattle.rules.specs.FirstWays.{basin, firstReceiver, lowerNeighbours, neighbours, singular, singularOf, solidCells, steepestOf}
-use Rattle.rules.specs.Ground.{Ground}
-use Rattle.rules.specs.Network.{above, drainage, givers, level, levelWithin, network, networkOf, order, outlets, through, wet}
+use Rattle.rules.specs.Network.{above, drainage, givers, level, levelWithin, liftedNetwork, network, networkOf, order}
+use Rattle.rules.specs.Network.{outlets, through, wet}
 use Rattle.rules.specs.Passes.{chosen, crossingHeight, crossings, crossingsAt, divides, less, lessThan, linked, node, passes}
 use Rattle.rules.specs.Passes.{sameBasins}
+use Rattle.rules.specs.Samples.{groundF}
 use Rattle.text.specs.Text.{cellLine, cellLines, decimal, decimalWithin, groundText, outletDrainage, refusedText}
 use Rattle.text.specs.Text.{signedDecimal, sizeLine, sumsLine, tileText}
-
--- F, 2 by 1
-abbrev groundF : Ground
-groundF = record { width = 2; height = 1; heights = negsuc 2 ∷ pos 4 ∷ []; marks = 0 ∷ 1 ∷ []; water = 2 ∷ 3 ∷ [] }
 
 -- "tile 2 1", "0 1 4 2", "1 1 4 5", "out 5 of 5"
 pub text-F :
@@ -24,7 +21,7 @@ pub text-F :
     ∷ 48 ∷ 32 ∷ 49 ∷ 32 ∷ 52 ∷ 32 ∷ 50 ∷ 10
     ∷ 49 ∷ 32 ∷ 49 ∷ 32 ∷ 52 ∷ 32 ∷ 53 ∷ 10
     ∷ 111 ∷ 117 ∷ 116 ∷ 32 ∷ 53 ∷ 32 ∷ 111 ∷ 102 ∷ 32 ∷ 53 ∷ 10 ∷ []
-unfolding network networkOf solidCells neighbours lowerNeighbours steepestOf firstReceiver singular
+unfolding network networkOf liftedNetwork solidCells neighbours lowerNeighbours steepestOf firstReceiver singular
     singularOf basin divides crossingsAt crossings crossingHeight less sameBasins passes node linked join labels
     joined lessThan chosen allBut farCell nearCell leadsOut outflows firstWay previous carved receiver receivers
     levelWithin level givers above outlets order through drainage wet

@@ -79,7 +79,7 @@ tileText w h receivers levels drainage marks water =
 unfoldable pub groundText : Ground → List ℕ
 groundText g =
     let n = network g in
-    tileText (g .width) (g .height) (n .receiverList) (n .levelList) (n .drainageList) (g .marks) (g .water)
+    tileText (g .width) (g .height) (n .receivers) (n .levels) (n .drainage) (g .marks) (g .water)
 
 -- and for a refusal: number, place
 unfoldable pub refusedText : ℕ → ℕ → List ℕ

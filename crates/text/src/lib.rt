@@ -6,17 +6,17 @@ ghost use mathlib.Core.List.{[], map, _++_, _∷_};
 ghost use mathlib.Core.Path.{_≡_};
 ghost use Prim.Native.Nat.{_<_, _≤_};
 ghost use lib.Dec.{eqb};
-ghost use lib.ListN.{length};
+ghost use lib.ListN.{length, take};
 ghost use Rattle.lists.specs.Lists.{at, sum};
 ghost use Rattle.rules.specs.Ground.{dropped};
 ghost use Rattle.text.specs.Text.{cellLine, cellLines, decimal, outletDrainage, pairLine, refusedText};
 ghost use Rattle.text.specs.Text.{signedDecimal, sizeLine, sumsLine, tileText};
-ghost use Rattle.text.specs.Writing.{CellRoom, Printable, Printed, Room, Wrote};
+ghost use Rattle.text.specs.Writing.{CellsFit, Fits, Printable, Printed, Wrote};
 use kinds::Cell;
 
 // A number's decimal digits: those of its tenth, and then the last one.
 fn write_decimal(text: &mut [u8], from: usize, n: u64) -> usize
-    requires { ⌜ Room from (decimal n) (now text) ⌝ }
+    requires { ⌜ Fits from (decimal n) (now text) ⌝ }
     ensures { λ r. ⌜ Wrote from (decimal n) (now (text .entry)) (now (text .exit)) r ⌝ }
 {
     if n < 10 {
@@ -30,7 +30,7 @@ fn write_decimal(text: &mut [u8], from: usize, n: u64) -> usize
 
 // A number's digits, and then a space or a newline.
 fn write_number(text: &mut [u8], from: usize, n: u64, after: u8) -> usize
-    requires { ⌜ Room from (decimal n ++ (after ∷ [])) (now text) ⌝ }
+    requires { ⌜ Fits from (decimal n ++ (after ∷ [])) (now text) ⌝ }
     ensures { λ r. ⌜ Wrote from (decimal n ++ (after ∷ [])) (now (text .entry)) (now (text .exit)) r ⌝ }
 {
     let to = write_decimal(text, from, n);
@@ -40,7 +40,7 @@ fn write_number(text: &mut [u8], from: usize, n: u64, after: u8) -> usize
 
 // A lifted level as the signed number that it stands for, and then a space.
 fn write_level(text: &mut [u8], from: usize, level: u32) -> usize
-    requires { ⌜ Room from (signedDecimal (dropped level) ++ (32 ∷ [])) (now text) ⌝ }
+    requires { ⌜ Fits from (signedDecimal (dropped level) ++ (32 ∷ [])) (now text) ⌝ }
     ensures { λ r. ⌜ Wrote from (signedDecimal (dropped level) ++ (32 ∷ [])) (now (text .entry)) (now (text .exit)) r ⌝ }
 {
     if 8_000_000 <= level {
@@ -53,16 +53,16 @@ fn write_level(text: &mut [u8], from: usize, level: u32) -> usize
 
 // A word, with the space that follows it.
 fn write_word(text: &mut [u8], from: usize, word: &[u8]) -> usize
-    requires { ⌜ Room from (now word) (now text) ⌝ }
+    requires { ⌜ Fits from (now word) (now text) ⌝ }
     ensures { λ r. ⌜ Wrote from (now (word .entry)) (now (text .entry)) (now (text .exit)) r ⌝ }
 {
-    little::write_section_u8(text, from, word);
+    sections::write_section_u8(text, from, word);
     from + word.len()
 }
 
 // A line from the text's start on: a word, with the space that follows it, and two numbers.
 pub fn write_pair(text: &mut [u8], word: &[u8], first: u16, second: u32) -> usize
-    requires { ⌜ Room 0 (pairLine (now word) first second) (now text) ⌝ }
+    requires { ⌜ Fits 0 (pairLine (now word) first second) (now text) ⌝ }
     ensures { λ r. ⌜ Printed (pairLine (now (word .entry)) first second) (now (text .entry)) (now (text .exit)) r ⌝ }
 {
     let from = write_word(text, 0, word);
@@ -79,7 +79,7 @@ fn write_cell(
     level: u32,
     drainage: u32,
 ) -> usize
-    requires { ⌜ Room from (cellLine (cell .0) (receiver .0) (dropped level) drainage) (now text) ⌝ }
+    requires { ⌜ Fits from (cellLine (cell .0) (receiver .0) (dropped level) drainage) (now text) ⌝ }
     ensures { λ r. ⌜
         Wrote from (cellLine (cell .0) (receiver .0) (dropped level) drainage) (now (text .entry)) (now (text .exit)) r
         ⌝ }
@@ -90,22 +90,23 @@ fn write_cell(
     write_number(text, fourth, drainage as u64, b'\n')
 }
 
-// The lines of all cells; levels are lifted.
+// The lines of the first n cells; levels are lifted.
 fn write_cells(
     text: &mut [u8],
     from: usize,
+    n: usize,
     receivers: &[u16],
     levels: &[u32],
     drainage: &[u32],
 ) -> usize
-    requires { ⌜ CellRoom from (now receivers) (now levels) (now drainage) (now text) ⌝ }
+    requires { ⌜ CellsFit from n (now receivers) (now levels) (now drainage) (now text) ⌝ }
     ensures { λ r. ⌜
-        Wrote from (cellLines (now (receivers .entry)) (map dropped (now (levels .entry))) (now (drainage .entry)) (length (now (receivers .entry))))
+        Wrote from (cellLines (now (receivers .entry)) (map dropped (now (levels .entry))) (now (drainage .entry)) n)
         (now (text .entry)) (now (text .exit)) r
         ⌝ }
 {
     let mut to = from;
-    for c in 0..receivers.len() {
+    for c in 0..n {
         to = write_cell(
             text,
             to,
@@ -126,13 +127,13 @@ fn outlet_share(drainage: &[u32], marks: &[u8], c: usize) -> u64
     if marks[c] == 1 { drainage[c] as u64 } else { 0 }
 }
 
-// The sum of the outlets' drainage.
-fn outlet_drainage(drainage: &[u32], marks: &[u8]) -> u64
-    requires { ⌜ (length (now drainage) ≤ 4096) × (length (now marks) ≡ length (now drainage)) ⌝ }
-    ensures { λ r. ⌜ r ≡ outletDrainage (now (drainage .entry)) (now (marks .entry)) (length (now (drainage .entry))) ⌝ }
+// The sum of the drainage of those of the first n cells that are outlets.
+fn outlet_drainage(n: usize, drainage: &[u32], marks: &[u8]) -> u64
+    requires { ⌜ (n ≤ 4096) × (n ≤ length (now drainage)) × (n ≤ length (now marks)) ⌝ }
+    ensures { λ r. ⌜ r ≡ outletDrainage (now (drainage .entry)) (now (marks .entry)) n ⌝ }
 {
     let mut total: u64 = 0;
-    for c in 0..drainage.len() {
+    for c in 0..n {
         total += outlet_share(drainage, marks, c);
     }
     total
@@ -145,13 +146,13 @@ fn wide(x: u16) -> u64
     x as u64
 }
 
-// The sum of the water.
-fn total_water(water: &[u16]) -> u64
-    requires { ⌜ length (now water) ≤ 4096 ⌝ }
-    ensures { λ r. ⌜ r ≡ sum (now (water .entry)) ⌝ }
+// The sum of the water of the first n cells.
+fn total_water(n: usize, water: &[u16]) -> u64
+    requires { ⌜ (n ≤ 4096) × (n ≤ length (now water)) ⌝ }
+    ensures { λ r. ⌜ r ≡ sum (take n (now (water .entry))) ⌝ }
 {
     let mut total: u64 = 0;
-    for c in 0..water.len() {
+    for c in 0..n {
         total += wide(water[c]);
     }
     total
@@ -159,7 +160,7 @@ fn total_water(water: &[u16]) -> u64
 
 // The first line: width, height.
 fn write_size(text: &mut [u8], width: u16, height: u16) -> usize
-    requires { ⌜ Room 0 (sizeLine width height) (now text) ⌝ }
+    requires { ⌜ Fits 0 (sizeLine width height) (now text) ⌝ }
     ensures { λ r. ⌜ Wrote 0 (sizeLine width height) (now (text .entry)) (now (text .exit)) r ⌝ }
 {
     write_pair(text, b"tile ", width, height as u32)
@@ -167,7 +168,7 @@ fn write_size(text: &mut [u8], width: u16, height: u16) -> usize
 
 // The last line: the sum of the outlets' drainage, the sum of the water.
 fn write_sums(text: &mut [u8], from: usize, out: u64, water: u64) -> usize
-    requires { ⌜ Room from (sumsLine out water) (now text) ⌝ }
+    requires { ⌜ Fits from (sumsLine out water) (now text) ⌝ }
     ensures { λ r. ⌜ Wrote from (sumsLine out water) (now (text .entry)) (now (text .exit)) r ⌝ }
 {
     let second = write_word(text, from, b"out ");
@@ -176,29 +177,32 @@ fn write_sums(text: &mut [u8], from: usize, out: u64, water: u64) -> usize
     write_number(text, fourth, water, b'\n')
 }
 
-// The text of a tile, and how many bytes it takes; levels are lifted.
+// The text of a tile of n cells, and how many bytes it takes; levels are lifted, and the lists may be longer.
 pub fn write_tile(
     text: &mut [u8],
     width: u16,
     height: u16,
+    n: usize,
     receivers: &[u16],
     levels: &[u32],
     drainage: &[u32],
     marks: &[u8],
     water: &[u16],
 ) -> usize
-    requires { ⌜ Printable width height (now receivers) (now levels) (now drainage) (now marks) (now water) (now text) ⌝ }
+    requires { ⌜
+        Printable width height n (now receivers) (now levels) (now drainage) (now marks) (now water) (now text)
+        ⌝ }
     ensures { λ r. ⌜
         Printed
-        (tileText width height (now (receivers .entry)) (map dropped (now (levels .entry))) (now (drainage .entry)) (now (marks .entry))
-        (now (water .entry)))
+        (tileText width height (take n (now (receivers .entry))) (map dropped (take n (now (levels .entry)))) (take n (now (drainage .entry)))
+        (take n (now (marks .entry))) (take n (now (water .entry))))
         (now (text .entry)) (now (text .exit)) r
         ⌝ }
 {
     let first = write_size(text, width, height);
-    let last = write_cells(text, first, receivers, levels, drainage);
-    let out = outlet_drainage(drainage, marks);
-    let rain = total_water(water);
+    let last = write_cells(text, first, n, receivers, levels, drainage);
+    let out = outlet_drainage(n, drainage, marks);
+    let rain = total_water(n, water);
     write_sums(text, last, out, rain)
 }
 

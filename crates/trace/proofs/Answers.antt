@@ -8,7 +8,7 @@ use native.Mathlib.Omega.{arith}
 use lib.Dec.{eqb}
 use lib.ListN.{length}
 use Rattle.kinds.specs.Kinds.{asCell}
-use Rattle.lists.specs.Lists.{at, repeat}
+use Rattle.lists.specs.Lists.{at}
 use Rattle.rules.proofs.Demand3Holds.{ends-at-outlet}
 use Rattle.rules.proofs.Draining.{receivers-drain}
 use Rattle.rules.proofs.Steps.{few-steps}
@@ -18,7 +18,7 @@ use Rattle.rules.specs.Demand3.{innerCells}
 use Rattle.rules.specs.Land.{Land}
 use Rattle.rules.specs.Trace.{reached, refused, stopped, trace, Traced}
 use Rattle.rules.specs.Way.{Drains, Lawful}
-use Rattle.trace.specs.Answer.{answerOf}
+use Rattle.trace.specs.Answer.{answerOf, AtOutlet}
 use Rattle.trace.specs.declared.TraceAnswer.{TraceAnswer}
 use Rattle.trace.specs.declared.TraceAnswer.the-variants.{BadCell, BadEntry, BadList, Outlet, Stopped}
 
@@ -39,13 +39,6 @@ said (BadEntry c) = refl
 -- two answers that the contract allows are one
 pub trace-one : (a b : TraceAnswer) → answerOf a ≡ answerOf b → a ≡ b
 trace-one a b e = sym (said a) ∙ ap answerFor e ∙ said b
-
--- an outlet that was reached, and the steps of the way to it
-pub record AtOutlet (L : Land) (r : List ℕ) (c : ℕ) (a : TraceAnswer) : Type 0 where
-  pub steps : ℕ
-  pub answer : a ≡ Outlet (asCell (repeat steps (at r) c)) steps
-  pub outlet : L .outlet (repeat steps (at r) c) ≡ true
-  pub few : steps ≤ length (innerCells L)
 
 module _ (L : Land) (r : List ℕ) (D : Drains L r) (small : L .cells ≤ 4096) (c : ℕ) (h : c < L .cells) (s : L .solid c ≡ true) where
   -- on receivers that drain, a budget of at least the count of cells that aren't outlets makes the call answer the outlet

@@ -5,26 +5,25 @@ use mathlib.Core.List.{List, map}
 use mathlib.Core.Logic.{inl, inr, _⊎_}
 use mathlib.Core.Path.{ap, subst, sym, _∙_, _≡_}
 use Prim.Native.Nat.{suc, zero, ℕ, _%_, _*_, _+_, _-_, _/_, _<_, _≤_}
-use native.Mathlib.Nat.{div-add-mod', suc-add, suc-mul, zero-add, zero-mul}
+use native.Mathlib.Nat.{div-add-mod', suc-mul, zero-add, zero-mul}
 use native.Mathlib.Omega.{arith}
 use lib.Dec.{eqb, ltb}
 use lib.ListN.{length, length-map}
 use borrow.Author.Tests.{eq-eqb, eqb-false, eqb-true, ltb-false, ltb-true}
 use Rattle.lists.proofs.Find.{find-found, find-left, find-none}
-use Rattle.lists.proofs.Members.{mem-map}
-use Rattle.lists.proofs.Once.{Once, once-le, once-map, once-range}
-use Rattle.lists.proofs.Ranges.{length-range, mem-upto, upto-mem}
-use Rattle.lists.proofs.Repeats.{repeat-last}
+use Rattle.lists.proofs.Map.{map-member}
+use Rattle.lists.proofs.Once.{once-le, once-map, once-range}
+use Rattle.lists.proofs.Range.{range-length, upto-below, upto-holds}
+use Rattle.lists.proofs.Repeat.{repeat-add, repeat-last}
 use Rattle.lists.proofs.Tests.{eq, gt, lt, lt-or-ge, Three, three}
-use Rattle.lists.specs.Find.{find}
-use Rattle.lists.specs.Lent.{NoneBelow}
-use Rattle.lists.specs.Lists.{at, repeat, upto, _∈_}
+use Rattle.lists.specs.Find.{find, NoneBelow}
+use Rattle.lists.specs.Lists.{at, Once, repeat, upto, _∈_}
 use Rattle.rules.specs.Trace.{stopped, traceFrom}
 use Rattle.trace.proofs.Steps.{Onward, traceFrom-endless, traceFrom-stopped}
 use Rattle.trace.specs.Ring.{backAfter, OnRing, ringLength}
 
 -- f takes n + 1 numbers to numbers below n, so it takes two of them to one
-pub pigeonhole : (f : ℕ → ℕ) (n : ℕ) → ((j : ℕ) → j ≤ n → f j < n) → (i : ℕ) × (j : ℕ) × (i < j) × (j ≤ n) × (f i ≡ f j)
+pigeonhole : (f : ℕ → ℕ) (n : ℕ) → ((j : ℕ) → j ≤ n → f j < n) → (i : ℕ) × (j : ℕ) × (i < j) × (j ≤ n) × (f i ≡ f j)
 pigeonhole f n below = go (lt-or-ge (find met (suc n)) (suc n))
   where
     earlier : ℕ → ℕ
@@ -52,39 +51,34 @@ pigeonhole f n below = go (lt-or-ge (find met (suc n)) (suc n))
         let fresh = find-left met (suc n) h in
         let o : Once (map f (upto (suc n))) =
         once-map f (upto (suc n)) (once-range (suc n) 0)
-        (λ i j a b e. let x : i < suc n = mem-upto a in let y : j < suc n = mem-upto b in one fresh i j (omega arith) (omega arith) e (three i j)) in
+        (λ i j a b e. let x : i < suc n = upto-below a in let y : j < suc n = upto-below b in one fresh i j (omega arith) (omega arith) e (three i j)) in
         let l : length (map f (upto (suc n))) ≤ length (upto n) =
-        once-le (map f (upto (suc n))) (upto n) o (λ x m. small x (mem-map f (upto (suc n)) m)) in
-        let a : length (map f (upto (suc n))) ≡ suc n = simp length-map (length-range (suc n) 0) in
-        let b : length (upto n) ≡ n = length-range n 0 in
+        once-le (map f (upto (suc n))) (upto n) o (λ x m. small x (map-member f (upto (suc n)) m)) in
+        let a : length (map f (upto (suc n))) ≡ suc n = simp length-map (range-length (suc n) 0) in
+        let b : length (upto n) ≡ n = range-length n 0 in
         absurd (omega arith)
       where
         small : (x : ℕ) → (j : ℕ) × (j ∈ upto (suc n)) × (x ≡ f j) → x ∈ upto n
         small x (j, m, e) =
-            let a : j < suc n = mem-upto m in
+            let a : j < suc n = upto-below m in
             let b : f j < n = below j (omega arith) in
             let l : x < n = omega arith in
-            upto-mem l
+            upto-holds l
 
 module _ {A : Type 0} (f : A → A) where
-  -- j steps, and then k
-  pub repeat-add : (j k : ℕ) (x : A) → repeat (j + k) f x ≡ repeat k f (repeat j f x)
-  repeat-add zero k x = ap (λ (m : ℕ). repeat m f x) (zero-add k)
-  repeat-add (suc j) k x = ap (λ (m : ℕ). repeat m f x) (suc-add j k) ∙ repeat-add j k (f x)
-
   -- p steps lead back to x: whole rounds don't count
   rounds : (p q : ℕ) (x : A) → repeat p f x ≡ x → repeat (q * p) f x ≡ x
   rounds p zero x e = ap (λ (m : ℕ). repeat m f x) (zero-mul p)
   rounds p (suc q) x e =
       ap (λ (m : ℕ). repeat m f x) (suc-mul q p)
-      ∙ repeat-add (q * p) p x
+      ∙ repeat-add f (q * p) p x
       ∙ ap (repeat p f) (rounds p q x e)
       ∙ e
 
   pub repeat-modulo : (p k : ℕ) (x : A) → repeat p f x ≡ x → repeat k f x ≡ repeat (k % p) f x
   repeat-modulo p k x e =
       ap (λ (m : ℕ). repeat m f x) (sym (div-add-mod' k p))
-      ∙ repeat-add (k / p * p) (k % p) x
+      ∙ repeat-add f (k / p * p) (k % p) x
       ∙ ap (repeat (k % p) f) (rounds p (k / p) x e)
 
 -- the trace from c goes on at each of its first n moves, n the list's length
@@ -158,7 +152,7 @@ module _ (r : List ℕ) (c : ℕ) (h : c < length r) (goes : (j : ℕ) → j ≤
       eq-eqb (repeat (suc (round - 1)) (at r) home) home
       (ap (λ (k : ℕ). repeat k (at r) home) e ∙ sym (repeat-add (at r) (length r) round c) ∙ again (length r) (omega arith))
 
-  pub ring-back : length r ≤ 4096 → OnRing r (repeat (length r) (at r) c)
+  ring-back : length r ≤ 4096 → OnRing r (repeat (length r) (at r) c)
   unfolding after home round
   ring-back few =
       record {

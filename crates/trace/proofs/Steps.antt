@@ -23,7 +23,7 @@ pub data Arrival (r : List ℕ) (c : ℕ) : Type 0 where
   outlet : at r c < length r → at r c ≡ c → Arrival r c
   onward : Onward r c → Arrival r c
 
-pub arrival : (r : List ℕ) (c : ℕ) → Arrival r c
+arrival : (r : List ℕ) (c : ℕ) → Arrival r c
 arrival r c = go (lt-or-ge (at r c) (length r)) (eq-or-ne (at r c) c)
   where
     go : (at r c < length r) ⊎ (length r ≤ at r c) → (at r c ≡ c) ⊎ (at r c ≡ c → ⊥) → Arrival r c

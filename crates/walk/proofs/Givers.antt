@@ -1,144 +1,112 @@
--- What a visit pushes are the entries of the cells that receive to the visited one, by ascending number: a neighbour's links less the
--- bit back are the mask of its children, and the wrapped sums come out as its entry.
+-- The cells that receive to a cell, its givers, and their entries. Receivers lead to neighbours, so givers are at the rule's places. A giver's
+-- links are the bits of its own givers and one more, the bit back: two cells don't receive to each other. So what a visit pushes are the
+-- givers' entries, by ascending number.
 -- Assumes nothing.
-use mathlib.Core.Bool.{Bool, true, _&&_}
-use mathlib.Core.List.{List, map, map-append, _++_}
-use mathlib.Core.Path.{ap, sym, _∙_, _≡_}
-use Prim.Native.Nat.{ℕ, _%_, _*_, _+_, _-_, _/_, _<_, _≤_}
-use native.Mathlib.Nat.{mod-le}
+use mathlib.Core.Bool.{Bool, false, not, true}
+use mathlib.Core.List.{List, map}
+use mathlib.Core.Path.{ap, subst, sym, _∙_, _≡_}
+use Prim.Native.Nat.{suc, ℕ, _%_, _*_, _+_, _-_, _/_, _<_}
 use native.Mathlib.Omega.{arith}
-use lib.Dec.{leb, ltb}
-use lib.ListN.{drop, length, length-append, length-map}
+use lib.ListN.{drop, length, length-map}
 use lib.Seq.{getD-drop}
-use borrow.Author.Tests.{leb-true, ltb-true}
-use Rattle.lists.proofs.GridSides.{left-column, next-column, right-on}
-use Rattle.lists.proofs.Tests.{and-left, and-right}
-use Rattle.lists.specs.Lists.{at}
-use Rattle.rules.proofs.Orders.{Gives}
-use Rattle.rules.specs.Land.{Land}
-use Rattle.rules.specs.Network.{givers}
-use Rattle.tiles.proofs.Bits.{mask-bits, mask-small}
-use Rattle.tiles.proofs.Neighbours.{one}
-use Rattle.tiles.specs.Masks.{maskOf}
-use Rattle.tiles.specs.Tile.{tileLand}
-use Rattle.walk.proofs.Backs.{down-back, left-back, right-back, up-back}
-use Rattle.walk.proofs.Children.{givers-four, gives-is}
-use Rattle.walk.proofs.Pushing.{kept-length, kept-one}
-use Rattle.walk.specs.Climb.{downEntry, entryOf, gives, kept, leftEntry, ones, pushes, rightEntry, shifted, upEntry}
-use Rattle.walk.specs.Walk.{Linkage, Margin}
+use borrow.Author.Tests.{eq-eqb, eqb-true, ne-eqb, not-true}
+use Rattle.grid.proofs.Masks.{mask-more, mask-small}
+use Rattle.grid.proofs.Neighbours.{joinedAt, joined-places}
+use Rattle.grid.proofs.Window.{beside-mutual, on-stands, stands-back, stands-number}
+use Rattle.grid.specs.Masks.{bitOf, joinsAt, maskOf}
+use Rattle.grid.specs.Window.{beside, cellAt, onTile, Rows, Stands}
+use Rattle.lists.proofs.Tests.{and-both, and-left, and-right, never, or-left, so-not}
+use Rattle.lists.specs.Lists.{at, flat, _∈_}
+use Rattle.rules.proofs.Orders.{giver-runs, giver-solid, Gives}
+use Rattle.rules.proofs.Steps.{once-only}
+use Rattle.rules.specs.Land.{Land, Rule}
+use Rattle.rules.specs.Links.{Linkage, receivesEither}
+use Rattle.rules.specs.Network.{givers, gives}
+use Rattle.rules.specs.Tile.{tileLand}
+use Rattle.rules.specs.Way.{Drains}
+use Rattle.walk.proofs.Entries.{shifted-is, unit-fits}
+use Rattle.walk.proofs.Pushing.{keptOf-length, keptOf-tests}
+use Rattle.walk.specs.Climb.{besideEntry, cellUnit, entryOf, linksAt, ones, pushes}
+use Rattle.walk.specs.Walk.{Margin}
 
-module _ {w : ℕ} {heights marks links r : List ℕ} (M : Margin w heights marks links r) (c : ℕ) (on : c < length heights) where
-  abbrev K : Linkage w heights marks (drop 64 links) r
+module _ {R : Rule} {w : ℕ} {heights marks links r : List ℕ} (M : Margin R w heights marks links r) (c : ℕ) (on : c < length heights) where
+  abbrev places : List ℕ
+  places = R .places
+
+  abbrev K : Linkage R w heights marks (drop 64 links) r
   K = M .inside
 
   abbrev L : Land
-  L = tileLand w heights marks
+  L = tileLand R w heights marks
 
   abbrev n : ℕ
   n = length heights
 
+  abbrev rows : Rows w n
+  rows = K .tile .grid .rows
+
+  abbrev D : Drains L r
+  D = K .drains
+
   abbrev G : ℕ → ℕ → Bool
   G = gives L r
 
-  abbrev child : ℕ → ℕ
-  child d = maskOf w n G d
+  gives-is : (a d : ℕ) → d < n → G a d ≡ true → Gives L r D d a
+  gives-is a d h t = record { on = h; inner = not-true _ (and-left _ _ t); to = eqb-true _ _ (and-right (not (L .outlet d)) _ t) }
 
-  -- the entry of a cell d that receives to c, from its links: `wraps` is 1 where d comes before c
-  beside-entry : (d between bit place wraps : ℕ) → Gives L r (K .drains) d c → at (drop 64 links) d ≡ bit + child d → bit ≤ 8
-      → place ≡ 64 + d → 16 * c + between + bit ≡ 16 * d + 4294967296 * wraps
-      → shifted (65552 * c) between (at links place) ≡ entryOf w L r d
-  beside-entry d between bit place wraps g l b p e =
-      let a : at links place ≡ at (drop 64 links) d = ap (at links) p ∙ sym (getD-drop 64 links d 0) in
-      let s : child d < 16 = mask-small w n G d in
-      let few = K .tile .few in let h = g .on in let to = g .to in
-      omega arith
+  gives-beside : (x : ℕ) → x < n → G c x ≡ true → beside places w c x ≡ true
+  gives-beside x h t =
+      let g = gives-is c x h t in
+      let b = K .beside x h (giver-solid L r D c x on g) (g .inner) in
+      let s = subst (λ (y : ℕ). L .beside x y ≡ true) (g .to) b in
+      beside-mutual places w x c (K .is-rule) (and-right (L .solid c) _ (and-right (L .solid x) _ s))
 
-  up-entry : leb w c && G c (c - w) ≡ true → upEntry w links c ≡ entryOf w L r (c - w)
-  up-entry t =
-      let h : w ≤ c = leb-true w c (and-left (leb w c) _ t) in
-      let g = gives-is K (c - w) c (omega arith) (and-right (leb w c) _ t) in
-      let narrow = K .tile .narrow in
-      beside-entry (c - w) (4294967288 - 16 * w) 8 (c + 64 - w) 1 g (down-back K (c - w) c g on (omega arith) (omega arith)) (omega arith)
-      (omega arith) (omega arith)
+  givers-places : givers L r c ≡ flat (joinedAt w n G c) places
+  unfolding givers
+  givers-places = joined-places w n G c rows (K .is-rule) on gives-beside
 
-  left-entry : ltb 0 (c % w) && G c (c - 1) ≡ true → leftEntry links c ≡ entryOf w L r (c - 1)
-  left-entry t =
-      let h : 0 < c % w = ltb-true 0 (c % w) (and-left (ltb 0 (c % w)) _ t) in
-      let k : c % w ≤ c = mod-le c w in
-      let g = gives-is K (c - 1) c (omega arith) (and-right (ltb 0 (c % w)) _ t) in
-      let before = left-column w c (K .tile .wide) h in
-      beside-entry (c - 1) 4294967276 4 (c + 64 - 1) 1 g (right-back K (c - 1) c g on (before .0) (before .1)) (omega arith) (omega arith)
-      (omega arith)
+  -- a giver's links
+  module _ (d : ℕ) (g : Gives L r D d c) where
+    not-back : G d c ≡ false
+    not-back = never (G d c) (λ t.
+        let j = D .ways d (g .on) (giver-solid L r D c d on g) in
+        let c-runs = giver-runs L r D c (j .1) (gives-is d c on t) in
+        let q : suc (suc (j .0)) ≡ j .0 = once-only L (at r) (giver-runs L r D d c-runs g) (j .1) in
+        omega arith)
 
-  right-entry : ltb (c % w + 1) w && G c (c + 1) ≡ true → rightEntry links c ≡ entryOf w L r (c + 1)
-  right-entry t =
-      let h : c % w + 1 < w = ltb-true (c % w + 1) w (and-left (ltb (c % w + 1) w) _ t) in
-      let g = gives-is K (c + 1) c (right-on n w c (K .tile .whole) on h) (and-right (ltb (c % w + 1) w) _ t) in
-      let p : (c + 1) % w ≡ c % w + 1 = next-column c w h in
-      beside-entry (c + 1) 14 2 (c + 64 + 1) 0 g (left-back K (c + 1) c g on (omega arith) (omega arith)) (omega arith) (omega arith)
-      (omega arith)
+    links-back : (p : ℕ) → p ∈ places → Stands w n c p d
+        → maskOf places w n G d + bitOf places (8 - p) ≡ maskOf places w n (receivesEither L r) d
+    links-back p m S =
+        mask-more rows (K .is-rule) d G (receivesEither L r) (8 - p) c (K .is-rule .opposite p m) (stands-back S on)
+        (or-left _ _ (and-both _ _ (so-not _ (g .inner)) (eq-eqb _ _ (g .to)))) not-back
+        (λ q x i T z. rw (g .inner, ne-eqb (at r d) x (λ e. z (sym e ∙ g .to))))
 
-  down-entry : ltb (c + w) n && G c (c + w) ≡ true → downEntry w links c ≡ entryOf w L r (c + w)
-  down-entry t =
-      let b : c + w < n = ltb-true (c + w) n (and-left (ltb (c + w) n) _ t) in
-      let g = gives-is K (c + w) c b (and-right (ltb (c + w) n) _ t) in
-      let wide = K .tile .wide in
-      beside-entry (c + w) (16 * w - 1) 1 (c + 64 + w) 0 g (up-back K (c + w) c g on (omega arith) (omega arith)) (omega arith)
-      (omega arith) (omega arith)
+    beside-entry : (p : ℕ) → p ∈ places → Stands w n c p d → besideEntry places w links c p ≡ entryOf places w L r d
+    beside-entry p m S =
+        let u = stands-number S in
+        let i : linksAt w c p ≡ 64 + d = omega arith in
+        let a : at links (linksAt w c p) ≡ maskOf places w n (receivesEither L r) d =
+        ap (at links) i ∙ sym (getD-drop 64 links d 0) ∙ K .masks d (g .on) in
+        let s : at links (linksAt w c p) < cellUnit places =
+        subst (λ (x : ℕ). x < cellUnit places) (sym a) (mask-small rows (K .is-rule) d (receivesEither L r)) in
+        let few = K .tile .grid .few in let h = g .on in
+        let way : d + (w + 1) ≡ c + (p / 3 * w + p % 3) = omega arith in
+        rw (g .to)
+        (shifted-is (cellUnit places) c d w (p / 3 * w + p % 3) (bitOf places (8 - p)) (maskOf places w n G d) (at links (linksAt w c p))
+        (unit-fits places (K .is-rule)) (omega arith) (omega arith) (K .tile .grid .narrow) way s (a ∙ sym (links-back p m S)))
 
-  pub pushes-givers : pushes w links c (child c) ≡ map (entryOf w L r) (givers L r c)
-  unfolding pushes
+  pub pushes-givers : pushes places w links c (maskOf places w n G c) ≡ map (entryOf places w L r) (givers L r c)
+  unfolding pushes maskOf
   pushes-givers =
-      let B = mask-bits w n G c in
-      rw (
-        kept-one e (child c % 2) (upEntry w links c) (c - w) (leb w c && G c (c - w)) (B .up) up-entry,
-        kept-one e (child c / 2 % 2) (leftEntry links c) (c - 1) (ltb 0 (c % w) && G c (c - 1)) (B .left) left-entry,
-        kept-one e (child c / 4 % 2) (rightEntry links c) (c + 1) (ltb (c % w + 1) w && G c (c + 1)) (B .right) right-entry,
-        kept-one e (child c / 8 % 2) (downEntry w links c) (c + w) (ltb (c + w) n && G c (c + w)) (B .down) down-entry,
-      )
-      (sym (ap (map e) (givers-four K c on) ∙ map-append e us (ls ++ (rs ++ ds))
-      ∙ ap (λ (z : List ℕ). map e us ++ z) (map-append e ls (rs ++ ds) ∙ ap (λ (z : List ℕ). map e ls ++ z) (map-append e rs ds))))
-    where
-      e : ℕ → ℕ
-      e = entryOf w L r
-
-      us : List ℕ
-      us = one (leb w c && G c (c - w)) (c - w)
-
-      ls : List ℕ
-      ls = one (ltb 0 (c % w) && G c (c - 1)) (c - 1)
-
-      rs : List ℕ
-      rs = one (ltb (c % w + 1) w && G c (c + 1)) (c + 1)
-
-      ds : List ℕ
-      ds = one (ltb (c + w) n && G c (c + w)) (c + w)
+      keptOf-tests (besideEntry places w links c) (entryOf places w L r) (cellAt w c) (joinsAt w n G c) places
+      (λ p m t.
+      let S = on-stands w n c p (K .is-rule .within p m) (rows .wide) (and-left (onTile w n c p) _ t) in
+      beside-entry (cellAt w c p) (gives-is c (cellAt w c p) (S .on) (and-right (onTile w n c p) _ t)) p m S)
+      ∙ ap (map (entryOf places w L r)) (sym givers-places)
 
   -- as many as the mask has bits
-  pub givers-count : length (givers L r c) ≡ ones (child c)
+  pub givers-count : length (givers L r c) ≡ ones places (maskOf places w n G c)
   unfolding pushes
   givers-count =
-      let e : length (pushes w links c m) ≡ length (givers L r c) = ap length pushes-givers ∙ length-map (givers L r c) (entryOf w L r) in
-      let a = length-append us (ls ++ (rs ++ ds)) in
-      let b = length-append ls (rs ++ ds) in
-      let d = length-append rs ds in
-      let k₁ : length us ≡ m % 2 = kept-length (m % 2) (upEntry w links c) (omega arith) in
-      let k₂ : length ls ≡ m / 2 % 2 = kept-length (m / 2 % 2) (leftEntry links c) (omega arith) in
-      let k₃ : length rs ≡ m / 4 % 2 = kept-length (m / 4 % 2) (rightEntry links c) (omega arith) in
-      let k₄ : length ds ≡ m / 8 % 2 = kept-length (m / 8 % 2) (downEntry w links c) (omega arith) in
-      omega arith
-    where
-      m : ℕ
-      m = child c
-
-      us : List ℕ
-      us = kept (m % 2) (upEntry w links c)
-
-      ls : List ℕ
-      ls = kept (m / 2 % 2) (leftEntry links c)
-
-      rs : List ℕ
-      rs = kept (m / 4 % 2) (rightEntry links c)
-
-      ds : List ℕ
-      ds = kept (m / 8 % 2) (downEntry w links c)
+      sym (length-map (givers L r c) (entryOf places w L r)) ∙ ap length (sym pushes-givers)
+      ∙ keptOf-length (besideEntry places w links c) places (maskOf places w n G c)

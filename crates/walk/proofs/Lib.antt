@@ -1,12 +1,10 @@
-pub mod Networks
 pub mod Entries
 pub mod Pushing
-pub mod Outlets
-pub mod Begins
-pub mod Children
-pub mod Backs
 pub mod Givers
+pub mod Outlets
 pub mod Midst
+pub mod Begins
 pub mod Tops
 pub mod Settled
 pub mod Turns
+pub mod Wholes

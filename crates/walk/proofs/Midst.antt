@@ -2,57 +2,49 @@
 -- Between turns there are the cells written and the cells pending. The order begins with the cells written. From the top on the stack
 -- holds the pending cells' entries, then what was past the cells' places; nothing is said of what lies above the top.
 -- The cells written, then all that lies above each pending cell, are rule 8's order. A pending cell runs to an outlet, and is one or has
--- its receiver written. An outlet's level is its height all along. Receivers, levels and wetness are noted for the cells written.
--- At the end nothing is pending: what is written is the order, and it has every cell.
+-- its receiver written. Receivers, levels and wetness are noted for the cells written; levels began as heights.
+-- At the end nothing is pending: what is written is the order. A cell that isn't in it is a hole, whose level is its height.
 -- Assumes nothing.
-use mathlib.Core.Bool.{false, false≢true, true}
+use mathlib.Core.Bool.{false, false≢true}
 use mathlib.Core.List.{[], append-nil, List, map, _++_, _∷_}
 use mathlib.Core.Path.{ap, refl, subst, sym, _∙_, _≡_}
 use Prim.Native.Nat.{ℕ, _+_, _<_, _≤_}
 use native.Mathlib.Omega.{arith}
 use lib.ListN.{drop, length}
-use Rattle.lists.proofs.Noted.{Noted, noted-all, noted-none}
-use Rattle.lists.proofs.Tables.{tab-is}
-use Rattle.lists.specs.Lists.{at, filled, flat, _∈_}
+use Rattle.lists.proofs.Filled.{filled-by}
+use Rattle.lists.proofs.Noted.{noted-none}
+use Rattle.lists.proofs.Tests.{is, isnt, Known, known}
+use Rattle.lists.specs.Lists.{at, flat, _∈_}
+use Rattle.lists.specs.Stores.{Noted}
+use Rattle.rules.proofs.Levels.{level-hole}
 use Rattle.rules.proofs.Orders.{from, mem-order, order-mem, outlet-of}
-use Rattle.rules.proofs.WholeOrders.{order-whole}
 use Rattle.rules.specs.Land.{Land}
 use Rattle.rules.specs.Network.{level, order, outlets, wet}
 use Rattle.rules.specs.Way.{done, Drains, Runs}
-use Rattle.tiles.specs.Tile.{tileLand}
 use Rattle.walk.specs.Climb.{entryOf, Ready}
-use Rattle.walk.specs.Walk.{Lent, Margin, Room, Walked}
+use Rattle.walk.specs.Walk.{Lent, LentHolds, Walked}
 
 -- k cells are written, and the stack's top is at t
-pub record Midst (w : ℕ) (L : Land) (r : List ℕ) (s₀ s : Lent) (k t : ℕ) : Type 0 where
+pub record Midst (places : List ℕ) (w : ℕ) (L : Land) (r : List ℕ) (s₀ s : Lent) (k t : ℕ) : Type 0 where
   pub written : List ℕ
   pub pending : List ℕ
   pub ordered : s .order ≡ written ++ drop k (s₀ .order)
   pub size-order : length (s .order) ≡ length (s₀ .order)
   pub size-stack : length (s .stack) ≡ length (s₀ .stack)
-  pub stacked : drop t (s .stack) ≡ map (entryOf w L r) pending ++ drop (L .cells) (s₀ .stack)
+  pub stacked : drop t (s .stack) ≡ map (entryOf places w L r) pending ++ drop (L .cells) (s₀ .stack)
   pub at-k : length written ≡ k
   pub at-t : t + length pending ≡ L .cells
   pub rule : written ++ flat (from L r) pending ≡ order L r
   pub runs : (x : ℕ) → x ∈ pending → (j : ℕ) × Runs L (at r) x j
   pub behind : (x : ℕ) → x ∈ pending → L .outlet x ≡ false → at r x ∈ written
-  pub low : (x : ℕ) → x < L .cells → L .outlet x ≡ true → at (s .levels) x ≡ L .height x
+  pub heights-noted : (x : ℕ) → x < L .cells → at (s₀ .levels) x ≡ L .height x
   pub noted-receivers : Noted (at r) written (s₀ .receivers) (s .receivers)
   pub noted-levels : Noted (level L r) written (s₀ .levels) (s .levels)
   pub noted-wets : Noted (wet L r) written (s₀ .wets) (s .wets)
 
-module _ {w : ℕ} {heights marks links r : List ℕ} (M : Margin w heights marks links r) where
-  abbrev L : Land
-  L = tileLand w heights marks
-
-  abbrev n : ℕ
-  n = length heights
-
-  abbrev D : Drains L r
-  D = M .inside .drains
-
+module _ {places : List ℕ} {w : ℕ} {L : Land} {r : List ℕ} (D : Drains L r) where
   -- the outlets are pending
-  pub begin : {s : Lent} {t : ℕ} → Ready w heights marks r s t → Midst w L r s s 0 t
+  pub begin : {s : Lent} {t : ℕ} → Ready places w L r s t → Midst places w L r s s 0 t
   unfolding order from
   begin {s} {t} R =
       record {
@@ -67,7 +59,7 @@ module _ {w : ℕ} {heights marks links r : List ℕ} (M : Margin w heights mark
         rule = refl;
         runs = λ x m. (0, outlet-of L r D x m);
         behind = λ x m o. absurd (outlets-only x o (outlet-of L r D x m));
-        low = R .low;
+        heights-noted = R .heights-noted;
         noted-receivers = noted-none (at r) (s .receivers);
         noted-levels = noted-none (level L r) (s .levels);
         noted-wets = noted-none (wet L r) (s .wets);
@@ -77,7 +69,7 @@ module _ {w : ℕ} {heights marks links r : List ℕ} (M : Margin w heights mark
       outlets-only x o (done h q) = false≢true (sym o ∙ q)
 
   -- the lists keep their places
-  pub still-room : {s₀ s : Lent} {k t : ℕ} → Midst w L r s₀ s k t → Room n s₀ → Room n s
+  pub still-room : {s₀ s : Lent} {k t : ℕ} → Midst places w L r s₀ s k t → LentHolds (L .cells) s₀ → LentHolds (L .cells) s
   still-room {s₀} {s} {k} {t} I P =
       let a = I .size-stack in let b = I .size-order in let c = I .noted-receivers .size in let d = I .noted-levels .size in
       let e = I .noted-wets .size in
@@ -91,39 +83,41 @@ module _ {w : ℕ} {heights marks links r : List ℕ} (M : Margin w heights mark
       }
 
   -- nothing is pending
-  module _ {s₀ s : Lent} {k t : ℕ} (I : Midst w L r s₀ s k t) (end : n ≤ t) where
+  module _ {s₀ s : Lent} {k t : ℕ} (I : Midst places w L r s₀ s k t) (end : L .cells ≤ t) where
     nothing : (l : List ℕ) → length l ≡ 0 → l ≡ []
     nothing [] e = refl
     nothing (y ∷ ys) e = absurd (omega arith)
 
     none-left : I .pending ≡ []
-    none-left = nothing (I .pending) (let a : t + length (I .pending) ≡ n = I .at-t in omega arith)
+    none-left = nothing (I .pending) (let a = I .at-t in omega arith)
 
-    at-end : t ≡ n
-    at-end = let a : t + length (I .pending) ≡ n = I .at-t in omega arith
+    at-end : t ≡ L .cells
+    at-end = let a = I .at-t in omega arith
 
     written-is : I .written ≡ order L r
     written-is = sym (append-nil (I .written)) ∙ ap (λ (l : List ℕ). I .written ++ flat (from L r) l) (sym none-left) ∙ I .rule
 
-    all-written : k ≡ n
-    all-written = sym (I .at-k) ∙ ap length written-is ∙ order-whole L r D (λ c h. refl)
+    level-at : (x : ℕ) → x < L .cells → Known (L .solid x) → at (s .levels) x ≡ level L r x
+    level-at x h (is t) = I .noted-levels .there x (subst (λ (l : List ℕ). x ∈ l) (sym written-is) (mem-order L r D x h t))
+    level-at x h (isnt t) =
+        I .noted-levels .elsewhere x
+        (λ m. false≢true (sym t ∙ order-mem L r D x (subst (λ (l : List ℕ). x ∈ l) written-is m) .1))
+        ∙ I .heights-noted x h ∙ sym (level-hole L r x t)
 
-    all : (y : ℕ) → y < n → y ∈ I .written
-    all y b = subst (λ (l : List ℕ). y ∈ l) (sym written-is) (mem-order L r D y b refl)
+    level-past : (x : ℕ) → L .cells ≤ x → at (s .levels) x ≡ at (s₀ .levels) x
+    level-past x h =
+        I .noted-levels .elsewhere x (λ m.
+        let b = order-mem L r D x (subst (λ (l : List ℕ). x ∈ l) written-is m) .0 in omega arith)
 
-    only : (y : ℕ) → y ∈ I .written → y < n
-    only y m = order-mem L r D y (subst (λ (l : List ℕ). y ∈ l) written-is m) .0
-
-    pub finish : Room n s₀ → Walked w heights marks r s₀ s
-    unfolding filled
+    pub finish : LentHolds (L .cells) s₀ → Walked L r s₀ s
     finish P =
         record {
-          order-is = I .ordered ∙ ap (λ (l : List ℕ). l ++ drop k (s₀ .order)) written-is
-              ∙ ap (λ (i : ℕ). order L r ++ drop i (s₀ .order)) all-written;
-          receivers-are = noted-all (at r) n (I .written) (s₀ .receivers) (s .receivers) (P .fits-receivers) all only (I .noted-receivers)
-              ∙ ap (λ (l : List ℕ). l ++ drop n (s₀ .receivers)) (tab-is (at r) r n 0 (D .full) (λ i b. refl));
-          levels-are = noted-all (level L r) n (I .written) (s₀ .levels) (s .levels) (P .fits-levels) all only (I .noted-levels);
-          wets-are = noted-all (wet L r) n (I .written) (s₀ .wets) (s .wets) (P .fits-wets) all only (I .noted-wets);
+          order-is = I .ordered ∙ ap (λ (i : ℕ). I .written ++ drop i (s₀ .order)) (sym (I .at-k))
+              ∙ ap (λ (l : List ℕ). l ++ drop (length l) (s₀ .order)) written-is;
+          receivers-are = subst (λ (l : List ℕ). Noted (at r) l (s₀ .receivers) (s .receivers)) written-is (I .noted-receivers);
+          levels-are = filled-by (level L r) (L .cells) (s₀ .levels) (s .levels) (P .fits-levels) (I .noted-levels .size)
+              (λ x h. level-at x h (known (L .solid x))) level-past;
+          wets-are = subst (λ (l : List ℕ). Noted (wet L r) l (s₀ .wets) (s .wets)) written-is (I .noted-wets);
           past = ap (λ (i : ℕ). drop i (s .stack)) (sym at-end) ∙ I .stacked
-              ∙ ap (λ (l : List ℕ). map (entryOf w L r) l ++ drop n (s₀ .stack)) none-left;
+              ∙ ap (λ (l : List ℕ). map (entryOf places w L r) l ++ drop (L .cells) (s₀ .stack)) none-left;
         }

@@ -6,37 +6,37 @@ use mathlib.Core.Path.{ap, sym, _∙_, _≡_}
 use Prim.Native.Nat.{suc, ℕ, _-_, _<_, _≤_}
 use native.Mathlib.Omega.{arith}
 use lib.ListN.{length}
-use Rattle.lists.proofs.Counts.{count-all}
-use Rattle.lists.proofs.Ranges.{length-range}
+use Rattle.grid.proofs.Neighbours.{one}
+use Rattle.lists.proofs.Keep.{keep-length}
+use Rattle.lists.proofs.Range.{range-length}
 use Rattle.lists.specs.Lists.{keep, range, upto}
-use Rattle.tiles.proofs.Neighbours.{one}
-use Rattle.walk.specs.Walk.{marked}
+use Rattle.rules.specs.Ground.{isOutlet}
 
--- of n cells, those from c on that are marked as outlets
+-- of n cells, those from c on that are outlets
 abbrev pub outletsFrom : (marks : List ℕ) (n c : ℕ) → List ℕ
-outletsFrom marks n c = keep (marked marks) (range c (n - c))
+outletsFrom marks n c = keep (isOutlet marks) (range c (n - c))
 
 pub outlets-next : (marks : List ℕ) (n c : ℕ) → 0 < c → c ≤ n
-    → one (marked marks (c - 1)) (c - 1) ++ outletsFrom marks n c ≡ outletsFrom marks n (c - 1)
+    → one (isOutlet marks (c - 1)) (c - 1) ++ outletsFrom marks n c ≡ outletsFrom marks n (c - 1)
 outlets-next marks n c h l =
     let a : n - (c - 1) ≡ suc (n - c) = omega arith in
     let b : c ≡ suc (c - 1) = omega arith in
-    go (marked marks (c - 1)) (ap (λ (m : ℕ). keep (marked marks) (range m (n - c))) b)
-    ∙ ap (λ (m : ℕ). keep (marked marks) (range (c - 1) m)) (sym a)
+    go (isOutlet marks (c - 1)) (ap (λ (m : ℕ). keep (isOutlet marks) (range m (n - c))) b)
+    ∙ ap (λ (m : ℕ). keep (isOutlet marks) (range (c - 1) m)) (sym a)
   where
-    go : (t : Bool) → keep (marked marks) (range c (n - c)) ≡ keep (marked marks) (range (suc (c - 1)) (n - c))
-        → one t (c - 1) ++ keep (marked marks) (range c (n - c))
-        ≡ cond t ((c - 1) ∷ keep (marked marks) (range (suc (c - 1)) (n - c))) (keep (marked marks) (range (suc (c - 1)) (n - c)))
+    go : (t : Bool) → keep (isOutlet marks) (range c (n - c)) ≡ keep (isOutlet marks) (range (suc (c - 1)) (n - c))
+        → one t (c - 1) ++ keep (isOutlet marks) (range c (n - c))
+        ≡ cond t ((c - 1) ∷ keep (isOutlet marks) (range (suc (c - 1)) (n - c))) (keep (isOutlet marks) (range (suc (c - 1)) (n - c)))
     go true e = ap (λ (l : List ℕ). (c - 1) ∷ l) e
     go false e = e
 
 pub outlets-few : (marks : List ℕ) (n c : ℕ) → length (outletsFrom marks n c) ≤ n - c
-outlets-few marks n c = let a = count-all (marked marks) (range c (n - c)) in let b = length-range (n - c) c in omega arith
+outlets-few marks n c = let a = keep-length (isOutlet marks) (range c (n - c)) in let b = range-length (n - c) c in omega arith
 
 pub outlets-none : (marks : List ℕ) (n : ℕ) → outletsFrom marks n n ≡ []
-outlets-none marks n = ap (λ (m : ℕ). keep (marked marks) (range n m)) (let z : n - n ≡ 0 = omega arith in z)
+outlets-none marks n = ap (λ (m : ℕ). keep (isOutlet marks) (range n m)) (let z : n - n ≡ 0 = omega arith in z)
 
-pub outlets-all : (marks : List ℕ) (n c : ℕ) → c ≡ 0 → outletsFrom marks n c ≡ keep (marked marks) (upto n)
+pub outlets-all : (marks : List ℕ) (n c : ℕ) → c ≡ 0 → outletsFrom marks n c ≡ keep (isOutlet marks) (upto n)
 outlets-all marks n c e =
     let z : n - 0 ≡ n = omega arith in
-    ap (outletsFrom marks n) e ∙ ap (λ (m : ℕ). keep (marked marks) (range 0 m)) z
+    ap (outletsFrom marks n) e ∙ ap (λ (m : ℕ). keep (isOutlet marks) (range 0 m)) z

@@ -7,15 +7,16 @@ use mathlib.Core.Path.{ap, refl, subst, sym, _∙_, _≡_}
 use Prim.Native.Nat.{max, suc, ℕ, _<_, _≤_}
 use native.Mathlib.Omega.{arith}
 use lib.Dec.{eqb, ltb}
-use borrow.Author.Tests.{eq-eqb, ltb-false, ltb-true, ne-eqb}
-use Rattle.lists.proofs.Tests.{is, isnt, known, Known}
-use Rattle.lists.specs.Lists.{at, _∈_}
+use borrow.Author.Tests.{eq-eqb, eqb-true, ltb-false, ltb-true, ne-eqb}
+use Rattle.lists.proofs.Any.{any-holds, any-member}
+use Rattle.lists.proofs.Tests.{is, isnt, Known, known}
+use Rattle.lists.specs.Lists.{any, at, _∈_}
 use Rattle.rules.proofs.Levels.{level-outlet, level-receiver}
 use Rattle.rules.proofs.Steps.{once-only}
-use Rattle.rules.specs.Land.{Land}
+use Rattle.rules.specs.Land.{Land, Rule}
 use Rattle.rules.specs.Network.{level, wet}
+use Rattle.rules.specs.Tile.{tileLand}
 use Rattle.rules.specs.Way.{done, Drains, more, Runs}
-use Rattle.tiles.specs.Tile.{tileLand}
 use Rattle.walk.proofs.Midst.{Midst}
 use Rattle.walk.proofs.Tops.{Top}
 use Rattle.walk.specs.Climb.{wetNow}
@@ -29,10 +30,10 @@ dry-or-level h b = go (known (ltb b h))
     go (is t) = let q : b < h = ltb-true _ _ t in rw (t, ne-eqb (max h b) b (λ z. omega arith))
     go (isnt t) = let q : h ≤ b = ltb-false _ _ t in rw (t, eq-eqb (max h b) b (omega arith))
 
-module _ {w : ℕ} {heights marks links r : List ℕ} (M : Margin w heights marks links r) {s₀ s : Lent} {k t : ℕ}
-    {I : Midst w (tileLand w heights marks) r s₀ s k t} (T : Top I) where
+module _ {R : Rule} {w : ℕ} {heights marks links r : List ℕ} (M : Margin R w heights marks links r) {s₀ s : Lent} {k t : ℕ}
+    {I : Midst (R .places) w (tileLand R w heights marks) r s₀ s k t} (T : Top I) where
   abbrev L : Land
-  L = tileLand w heights marks
+  L = tileLand R w heights marks
 
   abbrev D : Drains L r
   D = M .inside .drains
@@ -45,7 +46,14 @@ module _ {w : ℕ} {heights marks links r : List ℕ} (M : Margin w heights mark
   below = at (s .levels) (at r x)
 
   below-outlet : L .outlet x ≡ true → below ≡ at heights x
-  below-outlet o = rw (D .own x (T .on) o) (I .low x (T .on) o)
+  below-outlet o = rw (D .own x (T .on) o) (go (known (any (eqb x) (I .written))))
+    where
+      go : Known (any (eqb x) (I .written)) → at (s .levels) x ≡ at heights x
+      go (is a) =
+          let (y, m, e) = any-member (eqb x) (I .written) a in
+          I .noted-levels .there x (subst (λ (z : ℕ). z ∈ I .written) (sym (eqb-true _ _ e)) m) ∙ level-outlet L r x o
+      go (isnt a) =
+          I .noted-levels .elsewhere x (λ m. false≢true (sym a ∙ any-holds (eqb x) m (eq-eqb x x refl))) ∙ I .heights-noted x (T .on)
 
   below-inner : L .outlet x ≡ false → below ≡ level L r (at r x)
   below-inner o = I .noted-levels .there (at r x) (I .behind x (subst (λ (l : List ℕ). x ∈ l) (sym (T .is-top)) (in-head refl)) o)
@@ -60,6 +68,13 @@ module _ {w : ℕ} {heights marks links r : List ℕ} (M : Margin w heights mark
           omega arith
       go (isnt o) = ap (max (at heights x)) (below-inner o) ∙ sym (level-receiver L r (T .runs .1) o)
 
+  solid : L .solid x ≡ true
+  solid = go (T .runs .1)
+    where
+      go : {j : ℕ} → Runs L (at r) x j → L .solid x ≡ true
+      go (done h o) = D .outlet-solid x h o
+      go (more h b o z) = b
+
   apart : L .outlet x ≡ false → at r x ≡ x → ⊥
   apart o e = go (T .runs .1)
     where
@@ -73,7 +88,7 @@ module _ {w : ℕ} {heights marks links r : List ℕ} (M : Margin w heights mark
   wet-is = go (known (L .outlet x))
     where
       go : Known (L .outlet x) → wetNow x (at r x) (at heights x) below ≡ wet L r x
-      go (is o) = rw (o, eq-eqb (at r x) x (D .own x (T .on) o))
+      go (is o) = rw (solid, o, eq-eqb (at r x) x (D .own x (T .on) o))
       go (isnt o) =
           let e : level L r x ≡ max (at heights x) (level L r (at r x)) = level-receiver L r (T .runs .1) o in
-          rw (o, ne-eqb (at r x) x (apart o), below-inner o, e) (dry-or-level (at heights x) (level L r (at r x)))
+          rw (solid, o, ne-eqb (at r x) x (apart o), below-inner o, e) (dry-or-level (at heights x) (level L r (at r x)))

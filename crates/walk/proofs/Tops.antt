@@ -9,36 +9,36 @@ use Prim.Native.Nat.{suc, zero-le, ℕ, _+_, _<_, _≤_}
 use native.Mathlib.Omega.{arith}
 use lib.ListN.{drop, length, length-append}
 use lib.Seq.{drop-cons}
-use Rattle.lists.proofs.Parts.{flat-append}
+use Rattle.grid.proofs.Masks.{mask-small}
+use Rattle.grid.specs.Masks.{maskOf}
+use Rattle.lists.proofs.Flat.{flat-append}
 use Rattle.lists.specs.Lists.{at, flat, _∈_}
 use Rattle.rules.proofs.Orders.{from, from-step, giver, giver-runs, runs-on}
-use Rattle.rules.proofs.WholeOrders.{order-whole}
-use Rattle.rules.specs.Land.{Land}
-use Rattle.rules.specs.Network.{givers, order}
+use Rattle.rules.proofs.WholeOrders.{order-few}
+use Rattle.rules.specs.Land.{Land, Rule}
+use Rattle.rules.specs.Network.{givers, gives, order}
+use Rattle.rules.specs.Tile.{tileLand}
 use Rattle.rules.specs.Way.{done, Drains, more, Runs}
-use Rattle.tiles.proofs.Bits.{mask-small}
-use Rattle.tiles.specs.Masks.{maskOf}
-use Rattle.tiles.specs.Tile.{tileLand}
 use Rattle.walk.proofs.Entries.{entry-parts, Parts}
 use Rattle.walk.proofs.Givers.{givers-count}
 use Rattle.walk.proofs.Midst.{Midst}
-use Rattle.walk.specs.Climb.{cellIn, entryOf, gives, maskIn, ones, receiverIn}
+use Rattle.walk.specs.Climb.{cellIn, entryOf, maskIn, ones, receiverIn}
 use Rattle.walk.specs.Walk.{Lent, Margin}
 
 -- the top cell
-pub record Top {w : ℕ} {L : Land} {r : List ℕ} {s₀ s : Lent} {k t : ℕ} (I : Midst w L r s₀ s k t) : Type 0 where
+pub record Top {places : List ℕ} {w : ℕ} {L : Land} {r : List ℕ} {s₀ s : Lent} {k t : ℕ} (I : Midst places w L r s₀ s k t) : Type 0 where
   pub x : ℕ
   pub under : List ℕ
   pub is-top : I .pending ≡ x ∷ under
   pub on : x < L .cells
   pub runs : (j : ℕ) × Runs L (at r) x j
-  pub entry-is : at (s .stack) t ≡ entryOf w L r x
-  pub rest : drop (t + 1) (s .stack) ≡ map (entryOf w L r) under ++ drop (L .cells) (s₀ .stack)
+  pub entry-is : at (s .stack) t ≡ entryOf places w L r x
+  pub rest : drop (t + 1) (s .stack) ≡ map (entryOf places w L r) under ++ drop (L .cells) (s₀ .stack)
 
-module _ {w : ℕ} {heights marks links r : List ℕ} (M : Margin w heights marks links r) {s₀ s : Lent} {k t : ℕ}
-    (I : Midst w (tileLand w heights marks) r s₀ s k t) where
+module _ {R : Rule} {w : ℕ} {heights marks links r : List ℕ} (M : Margin R w heights marks links r) {s₀ s : Lent} {k t : ℕ}
+    (I : Midst (R .places) w (tileLand R w heights marks) r s₀ s k t) where
   abbrev L : Land
-  L = tileLand w heights marks
+  L = tileLand R w heights marks
 
   abbrev n : ℕ
   n = length heights
@@ -46,21 +46,23 @@ module _ {w : ℕ} {heights marks links r : List ℕ} (M : Margin w heights mark
   abbrev D : Drains L r
   D = M .inside .drains
 
+  abbrev e : ℕ → ℕ
+  e = entryOf (R .places) w L r
+
   pub top : t < n → n ≤ length (s .stack) → Top I
   top todo fits = go (I .pending) refl
     where
       go : (l : List ℕ) → I .pending ≡ l → Top I
-      go [] e = let a : t + length (I .pending) ≡ n = I .at-t in let b : length (I .pending) ≡ 0 = ap length e in absurd (omega arith)
-      go (y ∷ ys) e =
-          let q : at (s .stack) t ∷ drop (suc t) (s .stack) ≡ entryOf w L r y ∷ (map (entryOf w L r) ys ++ drop n (s₀ .stack)) =
-          sym (drop-cons (s .stack) t 0 (omega arith)) ∙ I .stacked
-          ∙ ap (λ (z : List ℕ). map (entryOf w L r) z ++ drop n (s₀ .stack)) e in
+      go [] p = let a : t + length (I .pending) ≡ n = I .at-t in let b : length (I .pending) ≡ 0 = ap length p in absurd (omega arith)
+      go (y ∷ ys) p =
+          let q : at (s .stack) t ∷ drop (suc t) (s .stack) ≡ e y ∷ (map e ys ++ drop n (s₀ .stack)) =
+          sym (drop-cons (s .stack) t 0 (omega arith)) ∙ I .stacked ∙ ap (λ (z : List ℕ). map e z ++ drop n (s₀ .stack)) p in
           let f : t + 1 ≡ suc t = omega arith in
-          let j = I .runs y (subst (λ (l : List ℕ). y ∈ l) (sym e) (in-head refl)) in
+          let j = I .runs y (subst (λ (l : List ℕ). y ∈ l) (sym p) (in-head refl)) in
           record {
             x = y;
             under = ys;
-            is-top = e;
+            is-top = p;
             on = runs-on L r (j .1);
             runs = j;
             entry-is = ap (λ (l : List ℕ). at l 0) q;
@@ -81,14 +83,17 @@ module _ {w : ℕ} {heights marks links r : List ℕ} (M : Margin w heights mark
     abbrev x : ℕ
     x = T .x
 
-    -- what the entry says
-    pub parts : Parts (at (s .stack) t) (at r x) x (maskOf w n (gives L r) x)
-    parts =
-        let a : x < n = T .on in let few = M .inside .tile .few in
-        subst (λ (e : ℕ). Parts e (at r x) x (maskOf w n (gives L r) x)) (sym (T .entry-is))
-        (entry-parts (at r x) x (maskOf w n (gives L r) x) (omega arith) (mask-small w n (gives L r) x))
+    abbrev child : ℕ
+    child = maskOf (R .places) w n (gives L r) x
 
-    pub receiver-on : at r x < n
+    -- what the entry says
+    pub parts : Parts (R .places) (at (s .stack) t) (at r x) x child
+    parts =
+        let a : x < n = T .on in let K = M .inside in let few = K .tile .grid .few in
+        subst (λ (z : ℕ). Parts (R .places) z (at r x) x child) (sym (T .entry-is))
+        (entry-parts (R .places) (at r x) x child (omega arith) (mask-small (K .tile .grid .rows) (K .is-rule) x (gives L r)))
+
+    receiver-on : at r x < n
     receiver-on = go (T .runs .1)
       where
         go : {j : ℕ} → Runs L (at r) x j → at r x < n
@@ -115,24 +120,24 @@ module _ {w : ℕ} {heights marks links r : List ℕ} (M : Margin w heights mark
         go (inr i) = I .runs y (subst (λ (l : List ℕ). y ∈ l) (sym (T .is-top)) (in-tail i))
 
     -- there is room in the order and on the stack
-    pub room : (k < n) × (ones (maskOf w n (gives L r) x) ≤ t)
+    pub room : (k < n) × (ones (R .places) child ≤ t)
     room =
         let a : length ((I .written ++ (x ∷ [])) ++ flat (from L r) after) ≡ length (order L r) = ap length next-rule in
         let b = length-append (I .written ++ (x ∷ [])) (flat (from L r) after) in
         let d = length-append (I .written) (x ∷ []) in
         let f : length after ≤ length (flat (from L r) after) = flat-long after next-runs in
         let g = length-append (givers L r x) (T .under) in
-        let h : length (order L r) ≡ n = order-whole L r D (λ c h. refl) in
+        let h : length (order L r) ≤ n = order-few L r D in
         let i : length (I .pending) ≡ suc (length (T .under)) = ap length (T .is-top) in
         let j = I .at-k in let m : t + length (I .pending) ≡ n = I .at-t in
-        let o : length (givers L r x) ≡ ones (maskOf w n (gives L r) x) = givers-count M x (T .on) in
+        let o : length (givers L r x) ≡ ones (R .places) child = givers-count M x (T .on) in
         (omega arith, omega arith)
 
-    pub cell-on : cellIn (at (s .stack) t) < n
+    pub cell-on : cellIn (R .places) (at (s .stack) t) < n
     cell-on = rw (parts .cell-is) (T .on)
 
-    pub receiver-there : receiverIn (at (s .stack) t) < n
+    pub receiver-there : receiverIn (R .places) (at (s .stack) t) < n
     receiver-there = rw (parts .receiver-is) receiver-on
 
-    pub bits-fit : ones (maskIn (at (s .stack) t)) ≤ t
+    pub bits-fit : ones (R .places) (maskIn (R .places) (at (s .stack) t)) ≤ t
     bits-fit = rw (parts .mask-is) (room .1)

@@ -5,16 +5,20 @@
 ghost use mathlib.Core.Bool.{cond};
 ghost use mathlib.Core.List.{List, map, _++_};
 ghost use mathlib.Core.Path.{_≡_};
-ghost use Prim.Native.Nat.{max, ℕ, _%_, _*_, _+_, _-_, _/_, _<_, _≤_};
+ghost use Prim.Native.Nat.{max, ℕ, _+_, _<_, _≤_};
 ghost use lib.ListN.{drop, length, set};
+ghost use Rattle.grid.specs.Window.{sides};
 ghost use Rattle.lists.specs.Lists.{at, filled, keep, upto};
-ghost use Rattle.walk.specs.Climb.{cellIn, kept, maskIn, ones, outletEntry, pushes, Ready, receiverIn, shifted, wetNow};
-ghost use Rattle.walk.specs.Walk.{lent, Margin, marked, Room, Walked};
+ghost use Rattle.rules.specs.Ground.{isOutlet};
+ghost use Rattle.rules.specs.Land.{rule4};
+ghost use Rattle.rules.specs.Tile.{tileLand};
+ghost use Rattle.walk.specs.Climb.{cellIn, cellUnit, kept, maskIn, ones, outletEntry, pushes, Ready, receiverIn, shifted, wetNow};
+ghost use Rattle.walk.specs.Walk.{lent, Margin, LentHolds, Walked};
 use kinds::Cell;
 use kinds::Place;
 use lists::most_u32;
+use rules::is_outlet;
 use std::num::wrapping_add_u32;
-use tiles::is_outlet;
 
 // One cell more in an entry: below stand the four bits of its mask.
 const CELL: u32 = 16;
@@ -45,19 +49,19 @@ struct Entry(u32);
 
 impl Entry {
     fn mask(self) -> u8
-        ensures { λ m. ⌜ (m ≡ maskIn (self .0)) × (m < 16) ⌝ }
+        ensures { λ m. ⌜ (m ≡ maskIn sides (self .0)) × (m < cellUnit sides) ⌝ }
     {
         (self.0 % CELL) as u8
     }
 
     fn cell(self) -> Cell
-        ensures { λ c. ⌜ (c .0 ≡ cellIn (self .0)) × (c .0 < 4096) ⌝ }
+        ensures { λ c. ⌜ (c .0 ≡ cellIn sides (self .0)) × (c .0 < 4096) ⌝ }
     {
         Cell((self.0 / CELL % 4096) as u16)
     }
 
     fn receiver(self) -> Cell
-        ensures { λ c. ⌜ c .0 ≡ receiverIn (self .0) ⌝ }
+        ensures { λ c. ⌜ c .0 ≡ receiverIn sides (self .0) ⌝ }
     {
         Cell((self.0 / RECEIVER) as u16)
     }
@@ -99,11 +103,11 @@ fn push(stack: &mut [u32], top: Place, entry: Entry, bit: u8) -> Place
 
 // Pushes the entries of the cells that receive to c, the greatest number first, in the place of c's own.
 fn visit(w: usize, links: &[u8], stack: &mut [u32], top: Place, c: Cell, mask: u8) -> Place
-    requires { ⌜ (0 < w) × (w ≤ 64) × (c .0 < 4096) × (c .0 + 64 + w < length (now links)) × (mask < 16) ⌝ }
-    requires { ⌜ (ones mask ≤ top .0) × (top .0 < length (now stack)) × (top .0 < 4096) ⌝ }
+    requires { ⌜ (0 < w) × (w ≤ 64) × (c .0 < 4096) × (c .0 + 64 + w < length (now links)) × (mask < cellUnit sides) ⌝ }
+    requires { ⌜ (ones sides mask ≤ top .0) × (top .0 < length (now stack)) × (top .0 < 4096) ⌝ }
     ensures { λ t. ⌜
-        (t .0 + ones mask ≡ top .0 + 1)
-        × (drop (t .0) (now (stack .exit)) ≡ pushes w (now (links .entry)) (c .0) mask ++ drop (top .0 + 1) (now (stack .entry)))
+        (t .0 + ones sides mask ≡ top .0 + 1)
+        × (drop (t .0) (now (stack .exit)) ≡ pushes sides w (now (links .entry)) (c .0) mask ++ drop (top .0 + 1) (now (stack .entry)))
         ⌝ }
 {
     let here = c.0 as usize + MARGIN;
@@ -172,15 +176,16 @@ fn climb(
     outlets: Place,
 )
     requires { ⌜
-        ((marks : List ℕ) × (r : List ℕ) × Margin w (now heights) marks (now links) r
-        × Ready w (now heights) marks r (lent (now stack) (now order) (now receivers) (now levels) (now wets)) (outlets .0))
+        ((marks : List ℕ) × (r : List ℕ) × Margin rule4 w (now heights) marks (now links) r
+        × Ready sides w (tileLand rule4 w (now heights) marks) r
+        (lent (now stack) (now order) (now receivers) (now levels) (now wets)) (outlets .0))
         ⌝ }
-    requires { ⌜ Room (length (now heights)) (lent (now stack) (now order) (now receivers) (now levels) (now wets)) ⌝ }
+    requires { ⌜ LentHolds (length (now heights)) (lent (now stack) (now order) (now receivers) (now levels) (now wets)) ⌝ }
     ensures { λ _. ⌜
-        ((marks : List ℕ) → (r : List ℕ) → Margin w (now (heights .entry)) marks (now (links .entry)) r
-        → Ready w (now (heights .entry)) marks r
+        ((marks : List ℕ) → (r : List ℕ) → Margin rule4 w (now (heights .entry)) marks (now (links .entry)) r
+        → Ready sides w (tileLand rule4 w (now (heights .entry)) marks) r
         (lent (now (stack .entry)) (now (order .entry)) (now (receivers .entry)) (now (levels .entry)) (now (wets .entry))) (outlets .0)
-        → Walked w (now (heights .entry)) marks r
+        → Walked (tileLand rule4 w (now (heights .entry)) marks) r
         (lent (now (stack .entry)) (now (order .entry)) (now (receivers .entry)) (now (levels .entry)) (now (wets .entry)))
         (lent (now (stack .exit)) (now (order .exit)) (now (receivers .exit)) (now (levels .exit)) (now (wets .exit))))
         ⌝ }
@@ -207,9 +212,9 @@ fn push_outlets(marks: &[u8], links: &[u8], stack: &mut [u32]) -> Place
         (length (now marks) ≤ 4096) × (length (now marks) + 128 ≤ length (now links)) × (length (now marks) ≤ length (now stack))
         ⌝ }
     ensures { λ t. ⌜
-        (t .0 + length (keep (marked (now (marks .entry))) (upto (length (now (marks .entry))))) ≡ length (now (marks .entry)))
+        (t .0 + length (keep (isOutlet (now (marks .entry))) (upto (length (now (marks .entry))))) ≡ length (now (marks .entry)))
         × (drop (t .0) (now (stack .exit))
-        ≡ map (outletEntry (now (links .entry))) (keep (marked (now (marks .entry))) (upto (length (now (marks .entry)))))
+        ≡ map (outletEntry sides (now (links .entry))) (keep (isOutlet (now (marks .entry))) (upto (length (now (marks .entry)))))
         ++ drop (length (now (marks .entry))) (now (stack .entry)))
         ⌝ }
 {
@@ -219,7 +224,7 @@ fn push_outlets(marks: &[u8], links: &[u8], stack: &mut [u32]) -> Place
     while 0 < c {
         c -= 1;
         let entry = Entry(BOTH * (c as u32) + wide(links[c + MARGIN]));
-        top = push(stack, top, entry, one_if(is_outlet(marks, Cell(c as u16))));
+        top = push(stack, top, entry, one_if(is_outlet(marks[c])));
     }
     top
 }
@@ -248,11 +253,11 @@ pub fn walk_links(
     levels: &mut [u32],
     wets: &mut [u8],
 )
-    requires { ⌜ ((r : List ℕ) × Margin w (now heights) (now marks) (now links) r) ⌝ }
-    requires { ⌜ Room (length (now heights)) (lent (now stack) (now order) (now receivers) (now levels) (now wets)) ⌝ }
+    requires { ⌜ ((r : List ℕ) × Margin rule4 w (now heights) (now marks) (now links) r) ⌝ }
+    requires { ⌜ LentHolds (length (now heights)) (lent (now stack) (now order) (now receivers) (now levels) (now wets)) ⌝ }
     ensures { λ _. ⌜
-        ((r : List ℕ) → Margin w (now (heights .entry)) (now (marks .entry)) (now (links .entry)) r
-        → Walked w (now (heights .entry)) (now (marks .entry)) r
+        ((r : List ℕ) → Margin rule4 w (now (heights .entry)) (now (marks .entry)) (now (links .entry)) r
+        → Walked (tileLand rule4 w (now (heights .entry)) (now (marks .entry))) r
         (lent (now (stack .entry)) (now (order .entry)) (now (receivers .entry)) (now (levels .entry)) (now (wets .entry)))
         (lent (now (stack .exit)) (now (order .exit)) (now (receivers .exit)) (now (levels .exit)) (now (wets .exit))))
         ⌝ }

@@ -16,9 +16,10 @@ struct Returned {
 /// Judges a network record that was returned for a ground. An error says what is wrong.
 pub fn judge(ground: &Ground, network: &[u8]) -> Result<(), String> {
     let returned = read(ground, network);
+    let least = least_highest_points(ground);
     judge_steps(ground, &returned.receivers)?;
-    judge_ways(ground, &returned.receivers)?;
-    judge_levels(ground, &returned.levels)?;
+    judge_ways(ground, &returned.receivers, &least)?;
+    judge_levels(&returned.levels, &least)?;
     judge_drainage(ground, &returned)
 }
 
@@ -61,9 +62,8 @@ fn judge_steps(ground: &Ground, receivers: &[usize]) -> Result<(), String> {
 
 /// From each cell the receivers lead to an outlet, over no cell twice, in no more steps than there
 /// are cells that aren't outlets, and over no higher ground than any way has to have.
-fn judge_ways(ground: &Ground, receivers: &[usize]) -> Result<(), String> {
+fn judge_ways(ground: &Ground, receivers: &[usize], least: &[i32]) -> Result<(), String> {
     let most_steps = ground.marks.iter().filter(|&&mark| mark == 0).count();
-    let least = least_highest_points(ground);
     let mut met_from = vec![usize::MAX; receivers.len()];
     for start in 0..receivers.len() {
         let (mut cell, mut steps) = (start, 0);
@@ -92,13 +92,12 @@ fn judge_ways(ground: &Ground, receivers: &[usize]) -> Result<(), String> {
 }
 
 /// Each level is the least highest point of all ways over neighbours to any outlet.
-fn judge_levels(ground: &Ground, levels: &[i32]) -> Result<(), String> {
-    let wanted = least_highest_points(ground);
-    match (0..levels.len()).find(|&cell| levels[cell] != wanted[cell]) {
+fn judge_levels(levels: &[i32], least: &[i32]) -> Result<(), String> {
+    match (0..levels.len()).find(|&cell| levels[cell] != least[cell]) {
         None => Ok(()),
         Some(cell) => Err(format!(
             "the level of cell {cell} is {}, and its least highest point {}",
-            levels[cell], wanted[cell]
+            levels[cell], least[cell]
         )),
     }
 }

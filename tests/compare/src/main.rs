@@ -152,15 +152,15 @@ fn mutants(arguments: &Arguments) -> bool {
     let most = arguments.cases.unwrap_or(mutants::MOST_CASES);
     println!("{:<60}{:>8}", "wrong library", "cases");
     let libraries = mutants::all().into_iter().map(|mutant| {
-        let caught = mutants::caught_after(mutant.library, seed, most);
+        let caught = mutants::caught_after(mutant.wrong, seed, most);
         print_caught(mutant.name, caught)
     });
     let mut caught: Vec<bool> = libraries.collect();
     let most = arguments.cases.unwrap_or(DEFAULT_QUESTIONS);
     println!("{:<60}{:>8}", "wrong text of follow", "cases");
-    caught.extend(following::WRONG_TEXTS.iter().map(|wrong| {
-        let caught = following::caught_after(wrong.text, seed, most);
-        print_caught(wrong.name, caught)
+    caught.extend(following::WRONG_TEXTS.iter().map(|mutant| {
+        let caught = following::caught_after(mutant.wrong, seed, most);
+        print_caught(mutant.name, caught)
     }));
     let missed = caught.iter().filter(|&&caught| !caught).count();
     println!("mutants: {} tried, {missed} missed", caught.len());

@@ -1,5 +1,6 @@
-//! Wrong libraries, to try the harness itself: each is the second program with one fault.
-//! A harness that lets one of them through would prove nothing about the real library.
+//! Wrong libraries, to try the harness itself: each is the second program with one fault, and there
+//! is one for each kind of fault. A harness that lets one of them through would prove nothing about
+//! the real library.
 
 /// A library with some stages exchanged for wrong ones.
 macro_rules! with {
@@ -8,6 +9,13 @@ macro_rules! with {
             let stages = $crate::mutants::Stages { $($stage: $wrong,)+ ..$crate::mutants::RIGHT };
             $crate::mutants::call(&stages, ground, network)
         }
+    };
+}
+
+/// A table of mutants: what is wrong with each, and the wrong library or text.
+macro_rules! mutants {
+    ($($name:literal => $wrong:expr,)+) => {
+        &[$($crate::mutants::Mutant { name: $name, wrong: $wrong },)+]
     };
 }
 
@@ -22,9 +30,9 @@ use second::first_receivers::first_receivers;
 use second::flow::{drainage, levels, order, wet};
 use second::ground::{Cell, Ground, Size};
 use second::network::Network;
+use second::network_record;
 use second::passes::{chosen_passes, crossings, passes, Crossing};
 use second::refusal::Refusal;
-use second::{network_record, record};
 
 use crate::cases::specimen;
 use crate::comparison::compare;
@@ -34,19 +42,15 @@ use crate::tally::Tally;
 /// Within so many cases every mutant has to be caught.
 pub const MOST_CASES: u64 = 4_000;
 
-/// A wrong library and what is wrong with it.
+/// A wrong library or a wrong text, and what is wrong with it.
 #[derive(Clone, Copy)]
-pub struct Mutant {
+pub struct Mutant<W> {
     pub name: &'static str,
-    pub library: Library,
+    pub wrong: W,
 }
 
-const fn mutant(name: &'static str, library: Library) -> Mutant {
-    Mutant { name, library }
-}
-
-/// Every mutant.
-pub fn all() -> Vec<Mutant> {
+/// Every wrong library.
+pub fn all() -> Vec<Mutant<Library>> {
     [network::MUTANTS, judging::MUTANTS, writing::MUTANTS].concat()
 }
 
@@ -85,7 +89,7 @@ struct Stages {
 
 /// The stages as they should be.
 const RIGHT: Stages = Stages {
-    judge,
+    judge: |record, room| judging::judged(record, room, |_| ()),
     first_receivers,
     basins,
     crossings,
@@ -98,22 +102,6 @@ const RIGHT: Stages = Stages {
     drainage,
     wet,
 };
-
-/// The right way to judge a record and the length of the room lent.
-fn judge(record: &[u8], room: usize) -> Result<Ground, Refusal> {
-    let size = record::judge_frame(record)?;
-    judge_room(size, room)?;
-    let ground = record::lists(record, size);
-    ground.judge_cells()?;
-    Ok(ground)
-}
-
-fn judge_room(size: Size, room: usize) -> Result<(), Refusal> {
-    match room < network_record::length(size) {
-        true => Err(Refusal::Room),
-        false => Ok(()),
-    }
-}
 
 /// The C call with these stages.
 fn call(stages: &Stages, record: &[u8], room: &mut [u8]) -> u32 {
@@ -171,7 +159,7 @@ mod tests {
     fn every_mutant_is_caught() {
         for mutant in all() {
             for seed in [1, 2] {
-                let caught = caught_after(mutant.library, seed, MOST_CASES);
+                let caught = caught_after(mutant.wrong, seed, MOST_CASES);
                 assert!(caught.is_some(), "seed {seed} misses: {}", mutant.name);
             }
         }
@@ -191,7 +179,7 @@ mod tests {
             "rule 6: near cell not joined to far cell",
         ] {
             let mutant = all().into_iter().find(|mutant| mutant.name == name);
-            let library = mutant.unwrap_or_else(|| panic!("no {name}")).library;
+            let library = mutant.unwrap_or_else(|| panic!("no {name}")).wrong;
             assert!(caught_after(library, 3, 100).is_some(), "missed: {name}");
         }
     }

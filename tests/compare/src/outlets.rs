@@ -8,14 +8,10 @@ use crate::chance::Chance;
 pub type Outlets = fn(&mut Chance, Size) -> Vec<u8>;
 
 /// Marks the cells for which the test holds, given row and column.
-fn marked(size: Size, mut is_outlet: impl FnMut(usize, usize) -> bool) -> Vec<u8> {
-    let mut marks = Vec::with_capacity(size.cells());
-    for row in 0..size.height {
-        for column in 0..size.width {
-            marks.push(u8::from(is_outlet(row, column)));
-        }
-    }
-    marks
+fn marked(size: Size, is_outlet: impl Fn(usize, usize) -> bool) -> Vec<u8> {
+    (0..size.cells())
+        .map(|cell| u8::from(is_outlet(cell / size.width, cell % size.width)))
+        .collect()
 }
 
 /// Any of the ways below, those with few outlets more often.

@@ -26,13 +26,9 @@ pub const ALL: [Relief; 13] = [
 
 /// A height for each cell, out of its row and column.
 pub fn each_cell(size: Size, mut height: impl FnMut(i32, i32) -> i32) -> Vec<i32> {
-    let mut heights = Vec::with_capacity(size.cells());
-    for row in 0..size.height {
-        for column in 0..size.width {
-            heights.push(height(row as i32, column as i32));
-        }
-    }
-    heights
+    (0..size.cells())
+        .map(|cell| height((cell / size.width) as i32, (cell % size.width) as i32))
+        .collect()
 }
 
 /// A height to build upon, often zero, sometimes near an end of the range.

@@ -6,35 +6,19 @@ use Rattle.askvimur.specs.Answer.{answerTo, networkRecordOf, roomOf}
 use Rattle.ground.proofs.Acceptance.{record-accepted}
 use Rattle.ground.specs.Judge.{leaves}
 use Rattle.ground.specs.Record.{groundOfRecord}
-use Rattle.record_network.proofs.Accepted.{good-here}
+use Rattle.record_stages.proofs.Accepted.{readable-here}
 use Rattle.ground.specs.declared.Judged.{Judged}
 use Rattle.askvimur.proofs.askvimur_network.Statement.{statement}
 use Rattle.askvimur.proofs.askvimur_network.Tie as tie
 
-record-call-requires : tie.Need-record-call-requires
-record-call-requires c κs = search needs
-
-enum-known-judged : tie.Need-enum-known-judged
-enum-known-judged c = search needs
-
-refusal-answer-requires : tie.Need-refusal-answer-requires
-refusal-answer-requires c κs = search needs
-
-enum-known-judged-2 : tie.Need-enum-known-judged-2
-enum-known-judged-2 c = search needs
-
 length-answer-requires : tie.Need-length-answer-requires
 length-answer-requires c κs =
-    let k = c .before .before .before .before .before in
-    let a = k .before .before .before .before .args in
-    let j = c .before .judged2 .given .0 in
+    let at-call = c .before .before .before .before .before in
+    let a = at-call .before .before .before .before .args in
+    let judged = c .before .judged2 .given in
     let room = roomOf (a .network .now) in
-    let A = record-accepted room (a .ground .now) (sym (k .record-call .ensures .0) ∙ c .before .judged2 .given .1) in
-    let G = good-here room (a .ground .now) (j .0) (j .1 .0) A in
-    (G .narrow, G .low)
-
-same-length : tie.Need-same-length
-same-length c = search needs
+    let A = record-accepted room (a .ground .now) (sym (at-call .record-call .ensures .0) ∙ judged .1) in
+    readable-here room (a .ground .now) (judged .0 .0) (judged .0 .1 .0) A .few
 
 returns : tie.Need-returns
 returns c =
@@ -45,9 +29,6 @@ returns c =
       c .refusal-answer .ensures ∙ ap answerTo (sym (c .before .before .judged .given .1) ∙ e),
       k .record-call .ensures .1 ∙ ap (λ (j : Judged). leaves j new (a .network .now)) e,
     )
-
-same-length-2 : tie.Need-same-length-2
-same-length-2 c = search needs
 
 returns-2 : tie.Need-returns-2
 returns-2 c =
@@ -63,12 +44,9 @@ pub askvimur-network-spec : {M : Type 1} → statement M
 askvimur-network-spec =
     tie.close
     (tie.spec
-    record-call-requires
-    enum-known-judged
-    refusal-answer-requires
-    enum-known-judged-2
+    (λ c κs. search needs) (λ c. search needs) (λ c κs. search needs) (λ c. search needs)
     length-answer-requires
-    same-length
+    (λ c. search needs)
     returns
-    same-length-2
+    (λ c. search needs)
     returns-2)

@@ -11,20 +11,11 @@ use Rattle.basins.proofs.Numbered.{labelled, numbered, singular-within}
 use Rattle.basins.proofs.basin_numbers.Statement.{statement}
 use Rattle.basins.proofs.basin_numbers.Tie as tie
 
-slice-aggregate-number-basins : tie.Need-slice-aggregate-number-basins
-slice-aggregate-number-basins c = search needs
-
 number-basins-requires : tie.Need-number-basins-requires
 number-basins-requires c κs =
     let st = c .before .before .before .before .before in
     let F = st .pre .0 .1 in
     (F .room, F .few, F .few)
-
-singular-cells-requires : tie.Need-singular-cells-requires
-singular-cells-requires c κs = search needs
-
-slice-aggregate-look-up : tie.Need-slice-aggregate-look-up
-slice-aggregate-look-up c = search needs
 
 look-up-requires : tie.Need-look-up-requires
 look-up-requires c κs =
@@ -42,12 +33,6 @@ look-up-requires c κs =
       (omega arith, omega arith, singular-within L (st .args .n) (st .args .entries .now) F (cells .last .0) (cells .ensures L F)),
       (st .pre .1 .0, st .pre .1 .1, d),
     )
-
-same-length : tie.Need-same-length
-same-length c = search needs
-
-same-length-2 : tie.Need-same-length-2
-same-length-2 c = search needs
 
 returns : tie.Need-returns
 returns c =
@@ -71,11 +56,9 @@ pub basin-numbers-spec : {M : Type 1} → statement M
 basin-numbers-spec =
     tie.close
     (tie.spec
-    slice-aggregate-number-basins
+    (λ c. search needs)
     number-basins-requires
-    singular-cells-requires
-    slice-aggregate-look-up
+    (λ c κs. search needs) (λ c. search needs)
     look-up-requires
-    same-length
-    same-length-2
+    (λ c. search needs) (λ c. search needs)
     returns)

@@ -30,48 +30,6 @@ in-tile c =
     let T = turned (st .args .n) (st .args .entries .now) (lp .loop .c) (st .pre .0) (st .pre .1) (lp .loop .inv .0) in
     rw (lp .loop .inv .2) (T .inside (lp .loop .c) (c .loop-test .taken))
 
-mul-d : tie.Need-mul-d Inv-loop μ-loop
-mul-d c = search needs
-
-slice-read-d : tie.Need-slice-read-d Inv-loop μ-loop
-slice-read-d c = search needs
-
-cast-e : tie.Need-cast-e Inv-loop μ-loop
-cast-e c =
-    let lp = c .before .before in
-    let st = lp .before .before in
-    let y : at (lp .loop .entries) (lp .loop .c) < st .args .n = in-tile (c .before) in
-    omega arith
-
-mul-e : tie.Need-mul-e Inv-loop μ-loop
-mul-e c =
-    let lp = c .before .before in
-    let st = lp .before .before in
-    let y : at (lp .loop .entries) (lp .loop .c) < st .args .n = in-tile (c .before) in
-    omega arith
-
-slice-read-e : tie.Need-slice-read-e Inv-loop μ-loop
-slice-read-e c =
-    let lp = c .before .before .before in
-    let st = lp .before .before in
-    let y : at (lp .loop .entries) (lp .loop .c) < st .args .n = in-tile (c .before .before) in
-    omega arith
-
-mul-entries : tie.Need-mul-entries Inv-loop μ-loop
-mul-entries c = search needs
-
-slice-write-entries : tie.Need-slice-write-entries Inv-loop μ-loop
-slice-write-entries c = search needs
-
-has-moved-requires : tie.Need-has-moved-requires Inv-loop μ-loop
-has-moved-requires c κs = search needs
-
-add-c : tie.Need-add-c Inv-loop μ-loop
-add-c c = search needs
-
-loop-less : tie.Need-loop-less Inv-loop μ-loop
-loop-less c = search needs
-
 loop-again : tie.Need-loop-again Inv-loop μ-loop
 loop-again c =
     let lp = c .before .before .before .before in
@@ -82,9 +40,6 @@ loop-again c =
       rw e (sym (jumped-next (lp .loop .c) (st .args .entries .now))),
       rw (c .has-moved .ensures, e, lp .loop .inv .3) (sym (moved-next (lp .loop .c) (st .args .entries .now))),
     )
-
-same-length : tie.Need-same-length Inv-loop μ-loop
-same-length c = c .before .loop .inv .1
 
 returns : tie.Need-returns Inv-loop μ-loop
 returns c =
@@ -103,16 +58,11 @@ jump-spec =
     Inv-loop
     μ-loop
     loop-holds
-    mul-d
-    slice-read-d
-    cast-e
-    mul-e
-    slice-read-e
-    mul-entries
-    slice-write-entries
-    has-moved-requires
-    add-c
-    loop-less
+    (λ c. search needs) (λ c. search needs)
+    (λ c. omega (arith, in-tile (c .before)))
+    (λ c. omega (arith, in-tile (c .before)))
+    (λ c. omega (arith, in-tile (c .before .before)))
+    (λ c. search needs) (λ c. search needs) (λ c κs. search needs) (λ c. search needs) (λ c. search needs)
     loop-again
-    same-length
+    (λ c. c .before .loop .inv .1)
     returns)

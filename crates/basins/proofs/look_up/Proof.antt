@@ -8,9 +8,9 @@ use native.Mathlib.Omega.{arith}
 use lib.ListN.{length, length-set, set}
 use borrow.Author.Needs.{needs}
 use Rattle.basins.specs.Labels.{labelBy}
-use Rattle.lists.proofs.Entries.{filled-past}
-use Rattle.lists.proofs.Fill.{filled-next, filled-none}
+use Rattle.lists.proofs.Filled.{filled-next, filled-none, filled-past}
 use Rattle.lists.specs.Lists.{at, filled}
+use Rattle.rules.specs.Ground.{isOutlet}
 use Rattle.basins.proofs.look_up.Statement.{statement}
 use Rattle.basins.proofs.look_up.Tie as tie
 
@@ -19,7 +19,7 @@ abbrev numberOf : (numbers entries : List ℕ) → ℕ → ℕ
 numberOf numbers entries d = at numbers (at entries d)
 
 abbrev labelFrom : (n : ℕ) (numbers marks entries : List ℕ) → ℕ → ℕ
-labelFrom n numbers marks entries d = labelBy n (at marks (at entries d)) (at numbers (at entries d))
+labelFrom n numbers marks entries d = labelBy n (isOutlet marks (at entries d)) (at numbers (at entries d))
 
 abbrev Inv-loop : tie.InvT-loop
 Inv-loop numbers marks n entries₀ labels₀ all c₀ entries labels c =
@@ -31,9 +31,6 @@ Inv-loop numbers marks n entries₀ labels₀ all c₀ entries labels c =
 
 abbrev μ-loop : tie.MeasureT-loop
 μ-loop numbers marks n entries₀ labels₀ all c₀ entries labels c = n - c
-
-cast-all : tie.Need-cast-all Inv-loop μ-loop
-cast-all c = search needs
 
 loop-holds : tie.Need-loop-holds Inv-loop μ-loop
 loop-holds c = (omega arith, refl, refl, sym (filled-none _ _), sym (filled-none _ _))
@@ -50,71 +47,19 @@ as-before c =
     ap (λ (l : List ℕ). at l (lp .loop .c)) (lp .loop .inv .3)
     ∙ filled-past (numberOf (a .numbers .now) (a .entries .now)) (lp .loop .c) (a .entries .now) (lp .loop .c) (omega arith)
 
-in-tile : (c : tie.In-loop Inv-loop μ-loop) → at (c .before .loop .entries) (c .before .loop .c) < start c .args .n
-in-tile c = rw (as-before c) (start c .pre .0 .2 (c .before .loop .c) (c .loop-test .taken))
-
-mul-d : tie.Need-mul-d Inv-loop μ-loop
-mul-d c = search needs
-
-slice-read-d : tie.Need-slice-read-d Inv-loop μ-loop
-slice-read-d c = search needs
-
-cast-d : tie.Need-cast-d Inv-loop μ-loop
-cast-d c =
-    let test = c .before in
-    let lp = test .before in
-    let st = lp .before .before .before .before .before in
-    let y : at (lp .loop .entries) (lp .loop .c) < st .args .n = in-tile test in
-    omega (arith, y, st .pre .0, st .pre .1)
-
-mul-number : tie.Need-mul-number Inv-loop μ-loop
-mul-number c =
-    let test = c .before in
-    let lp = test .before in
-    let st = lp .before .before .before .before .before in
-    let y : at (lp .loop .entries) (lp .loop .c) < st .args .n = in-tile test in
-    omega (arith, y, st .pre .0, st .pre .1)
-
-shared-slice-read-number : tie.Need-shared-slice-read-number Inv-loop μ-loop
-shared-slice-read-number c =
-    let test = c .before .before in
-    let lp = test .before in
-    let st = lp .before .before .before .before .before in
-    let y : at (lp .loop .entries) (lp .loop .c) < st .args .n = in-tile test in
-    omega (arith, y, st .pre .0, st .pre .1)
-
-mul-entries : tie.Need-mul-entries Inv-loop μ-loop
-mul-entries c = search needs
-
-slice-write-entries : tie.Need-slice-write-entries Inv-loop μ-loop
-slice-write-entries c = search needs
-
-shared-slice-read-label-of : tie.Need-shared-slice-read-label-of Inv-loop μ-loop
-shared-slice-read-label-of c =
-    let test = c .before .before .before in
-    let lp = test .before in
-    let st = lp .before .before .before .before .before in
-    let y : at (lp .loop .entries) (lp .loop .c) < st .args .n = in-tile test in
-    omega (arith, y, st .pre .0, st .pre .1)
-
-label-of-requires : tie.Need-label-of-requires Inv-loop μ-loop
-label-of-requires c κs = search needs
-
-mul-labels : tie.Need-mul-labels Inv-loop μ-loop
-mul-labels c = search needs
-
-slice-write-labels : tie.Need-slice-write-labels Inv-loop μ-loop
-slice-write-labels c = search needs
-
-add-c : tie.Need-add-c Inv-loop μ-loop
-add-c c = search needs
-
-loop-less : tie.Need-loop-less Inv-loop μ-loop
-loop-less c = search needs
+in-tile : (c : tie.In-loop Inv-loop μ-loop)
+    → let a = start c .args in
+    (at (c .before .loop .entries) (c .before .loop .c) < a .n)
+    × (a .n ≤ length (a .numbers .now))
+    × (a .n ≤ length (a .marks .now))
+    × (a .n ≤ 4096)
+in-tile c =
+    let p = start c .pre in
+    (rw (as-before c) (p .0 .2 (c .before .loop .c) (c .loop-test .taken)), p .0 .0, p .1 .0, p .1 .2)
 
 loop-again : tie.Need-loop-again Inv-loop μ-loop
 loop-again c =
-    let test = c .before .before .before .before in
+    let test = c .before .before .before .before .before in
     let lp = test .before in
     let st = lp .before .before .before .before .before in
     let same : at (lp .loop .entries) (lp .loop .c) ≡ at (st .args .entries .now) (lp .loop .c) = as-before test in
@@ -126,16 +71,10 @@ loop-again c =
       ap (λ (d : ℕ). set (lp .loop .entries) (lp .loop .c) (at (st .args .numbers .now) d)) same
           ∙ rw (lp .loop .inv .3) (filled-next f (lp .loop .c) (st .args .entries .now) (omega arith)),
       ap (set (lp .loop .labels) (lp .loop .c))
-          (c .label-of .ensures
-          ∙ ap (λ (d : ℕ). labelBy (st .args .n) (at (st .args .marks .now) d) (at (st .args .numbers .now) d)) same)
+          (rw (c .before .is-outlet .ensures) at (c .label-of .ensures)
+          ∙ ap (λ (d : ℕ). labelBy (st .args .n) (isOutlet (st .args .marks .now) d) (at (st .args .numbers .now) d)) same)
           ∙ rw (lp .loop .inv .4) (filled-next g (lp .loop .c) (st .args .labels .now) (omega (arith, st .pre .1))),
     )
-
-same-length : tie.Need-same-length Inv-loop μ-loop
-same-length c = c .before .loop .inv .1
-
-same-length-2 : tie.Need-same-length-2 Inv-loop μ-loop
-same-length-2 c = c .before .loop .inv .2
 
 returns : tie.Need-returns Inv-loop μ-loop
 returns c =
@@ -154,22 +93,17 @@ look-up-spec =
     (tie.spec
     Inv-loop
     μ-loop
-    cast-all
+    (λ c. search needs)
     loop-holds
-    mul-d
-    slice-read-d
-    cast-d
-    mul-number
-    shared-slice-read-number
-    mul-entries
-    slice-write-entries
-    shared-slice-read-label-of
-    label-of-requires
-    mul-labels
-    slice-write-labels
-    add-c
-    loop-less
+    (λ c. search needs) (λ c. search needs)
+    (λ c. omega (arith, in-tile (c .before)))
+    (λ c. omega (arith, in-tile (c .before)))
+    (λ c. omega (arith, in-tile (c .before .before)))
+    (λ c. search needs) (λ c. search needs)
+    (λ c. omega (arith, in-tile (c .before .before .before)))
+    (λ c κs. search needs) (λ c κs. search needs) (λ c. search needs) (λ c. search needs) (λ c. search needs)
+    (λ c. search needs)
     loop-again
-    same-length
-    same-length-2
+    (λ c. c .before .loop .inv .1)
+    (λ c. c .before .loop .inv .2)
     returns)

@@ -6,9 +6,6 @@ use borrow.Author.Tests.{eq-eqb, ne-eqb}
 use Rattle.basins.proofs.next_number.Statement.{statement}
 use Rattle.basins.proofs.next_number.Tie as tie
 
-add-t6 : tie.Need-add-t6
-add-t6 c = search needs
-
 returns : tie.Need-returns
 returns c = rw (eq-eqb _ _ (c .before .if1 .taken))
 
@@ -16,4 +13,4 @@ returns-2 : tie.Need-returns-2
 returns-2 c = rw (ne-eqb _ _ (c .if1 .left)) (omega arith)
 
 pub next-number-spec : {M : Type 1} → statement M
-next-number-spec = tie.close (tie.spec add-t6 returns returns-2)
+next-number-spec = tie.close (tie.spec (λ c. search needs) returns returns-2)

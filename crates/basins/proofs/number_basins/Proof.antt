@@ -9,7 +9,7 @@ use lib.ListN.{length, length-set}
 use borrow.Author.Needs.{needs}
 use Rattle.basins.proofs.Numbered.{below-next, below-none, one-or-none}
 use Rattle.basins.specs.Jumps.{oneIf, singularBelow}
-use Rattle.lists.proofs.Fill.{filled-next, filled-none}
+use Rattle.lists.proofs.Filled.{filled-next, filled-none}
 use Rattle.lists.specs.Lists.{at, filled}
 use Rattle.basins.proofs.number_basins.Statement.{statement}
 use Rattle.basins.proofs.number_basins.Tie as tie
@@ -25,30 +25,6 @@ abbrev μ-loop : tie.MeasureT-loop
 loop-holds : tie.Need-loop-holds Inv-loop μ-loop
 loop-holds c = (omega arith, omega arith, sym (below-none _), refl, sym (filled-none _ _))
 
-mul-numbers : tie.Need-mul-numbers Inv-loop μ-loop
-mul-numbers c = search needs
-
-slice-write-numbers : tie.Need-slice-write-numbers Inv-loop μ-loop
-slice-write-numbers c = search needs
-
-mul-t7 : tie.Need-mul-t7 Inv-loop μ-loop
-mul-t7 c = search needs
-
-shared-slice-read-t10 : tie.Need-shared-slice-read-t10 Inv-loop μ-loop
-shared-slice-read-t10 c = search needs
-
-cast-t12 : tie.Need-cast-t12 Inv-loop μ-loop
-cast-t12 c = search needs
-
-next-number-requires : tie.Need-next-number-requires Inv-loop μ-loop
-next-number-requires c κs = search needs
-
-add-c : tie.Need-add-c Inv-loop μ-loop
-add-c c = search needs
-
-loop-less : tie.Need-loop-less Inv-loop μ-loop
-loop-less c = search needs
-
 loop-again : tie.Need-loop-again Inv-loop μ-loop
 loop-again c =
     let lp = c .before .before .before in
@@ -62,9 +38,6 @@ loop-again c =
       simp length-set (lp .loop .inv .3),
       rw (lp .loop .inv .2, lp .loop .inv .4) (filled-next f (lp .loop .c) (st .args .numbers .now) (omega arith)),
     )
-
-same-length : tie.Need-same-length Inv-loop μ-loop
-same-length c = c .before .loop .inv .3
 
 returns : tie.Need-returns Inv-loop μ-loop
 returns c =
@@ -81,14 +54,8 @@ number-basins-spec =
     Inv-loop
     μ-loop
     loop-holds
-    mul-numbers
-    slice-write-numbers
-    mul-t7
-    shared-slice-read-t10
-    cast-t12
-    next-number-requires
-    add-c
-    loop-less
+    (λ c. search needs) (λ c. search needs) (λ c. search needs) (λ c. search needs) (λ c. search needs)
+    (λ c κs. search needs) (λ c. search needs) (λ c. search needs)
     loop-again
-    same-length
+    (λ c. c .before .loop .inv .3)
     returns)

@@ -3,7 +3,7 @@
 -- and where a round moves nothing each entry leads to one that stays, which is singular. The count of steps doubles.
 -- Assumes nothing.
 use mathlib.Core.Path.{sym, _∙_, _≡_}
-use Prim.Native.Nat.{_-_, _≤_}
+use Prim.Native.Nat.{_-_, _<_, _≤_}
 use native.Mathlib.Omega.{arith}
 use lib.ListN.{length}
 use borrow.Author.Tests.{not-true}
@@ -40,21 +40,10 @@ returns c =
     (lp .loop .inv) L F
     (sym (j .ensures .1) ∙ not-true _ (c .if1 .taken))
 
-add-steps : tie.Need-add-steps Inv-loop μ-loop
-add-steps c =
-    let j = c .before .before .before .jump in
-    let lp = c .before .before .before .before .before .before in
-    let st = lp .before .before in
-    let y : st .args .n ≤ 4096 = st .pre .1 .few in
-    omega (arith, c .before .before .before .before .before .loop-test .taken)
-
-loop-less : tie.Need-loop-less Inv-loop μ-loop
-loop-less c =
-    let j = c .before .before .before .jump in
-    let lp = c .before .before .before .before .before .before in
-    let st = lp .before .before in
-    let y : 1 ≤ lp .loop .steps = lp .loop .inv .some in
-    omega (arith, c .before .before .before .before .before .loop-test .taken)
+-- there is a step at least, and fewer than cells
+few-steps : (c : tie.In-loop Inv-loop μ-loop)
+    → let lp = c .before in (1 ≤ lp .loop .steps) × (lp .loop .steps < lp .before .before .args .n) × (lp .before .before .args .n ≤ 4096)
+few-steps c = let lp = c .before in (lp .loop .inv .some, c .loop-test .taken, lp .before .before .pre .1 .few)
 
 loop-again : tie.Need-loop-again Inv-loop μ-loop
 loop-again c =
@@ -63,9 +52,6 @@ loop-again c =
     let st = lp .before .before in
     rw (j .ensures .0)
     (leading-next (st .args .n) (st .args .entries .now) (lp .loop .entries) (lp .loop .steps) (st .pre .1 .room) (lp .loop .inv))
-
-same-length-2 : tie.Need-same-length-2 Inv-loop μ-loop
-same-length-2 c = c .before .loop .inv .size
 
 returns-2 : tie.Need-returns-2 Inv-loop μ-loop
 returns-2 c =
@@ -84,8 +70,8 @@ singular-cells-spec =
     jump-requires
     same-length
     returns
-    add-steps
-    loop-less
+    (λ c. omega (arith, few-steps (c .before .before .before .before .before)))
+    (λ c. omega (arith, few-steps (c .before .before .before .before .before)))
     loop-again
-    same-length-2
+    (λ c. c .before .loop .inv .size)
     returns-2)

@@ -13,47 +13,20 @@ use Rattle.drain.proofs.main.Tie as tie
 within : (c : tie.After-drain-text) → c .drain-text .result ≤ length (c .drain-text .last .1 .0)
 within c = omega (arith, c .drain-text .ensures .within, c .drain-text .kept .1 .0)
 
-slice-aggregate-read-full : tie.Need-slice-aggregate-read-full
-slice-aggregate-read-full c = search needs
-
-read-full-requires : tie.Need-read-full-requires
-read-full-requires c κs = search needs
-
-array-share-prefix-input : tie.Need-array-share-prefix-input
-array-share-prefix-input c = search needs
-
-slice-aggregate-drain-text : tie.Need-slice-aggregate-drain-text
-slice-aggregate-drain-text c = search needs
-
-slice-aggregate-drain-text-2 : tie.Need-slice-aggregate-drain-text-2
-slice-aggregate-drain-text-2 c = search needs
-
-drain-text-requires : tie.Need-drain-text-requires
-drain-text-requires c κs = search needs
-
 array-share-prefix-text : tie.Need-array-share-prefix-text
 array-share-prefix-text c = within (c .before)
 
 slice-aggregate-write-all : tie.Need-slice-aggregate-write-all
-slice-aggregate-write-all c = sym (length-take-le (c .before .before .drain-text .result) (c .before .before .drain-text .last .1 .0) (within (c .before .before)))
-
-write-all-requires : tie.Need-write-all-requires
-write-all-requires c κs = search needs
-
-returns : tie.Need-returns
-returns c = search needs
+slice-aggregate-write-all c =
+    let at-text = c .before .before in
+    sym (length-take-le (at-text .drain-text .result) (at-text .drain-text .last .1 .0) (within at-text))
 
 pub main-spec : {M : Type 1} → statement M
 main-spec =
     tie.close
     (tie.spec
-    slice-aggregate-read-full
-    read-full-requires
-    array-share-prefix-input
-    slice-aggregate-drain-text
-    slice-aggregate-drain-text-2
-    drain-text-requires
+    (λ c. search needs) (λ c κs. search needs) (λ c. search needs) (λ c. search needs) (λ c. search needs)
+    (λ c κs. search needs)
     array-share-prefix-text
     slice-aggregate-write-all
-    write-all-requires
-    returns)
+    (λ c κs. search needs) (λ c. search needs))

@@ -7,13 +7,10 @@ use native.Mathlib.Omega.{arith}
 use lib.ListN.{length}
 use borrow.Author.Needs.{needs}
 use Rattle.drainage.proofs.Backwards.{drained-own}
-use Rattle.lists.proofs.Entries.{filled-at}
+use Rattle.lists.proofs.Filled.{filled-at}
 use Rattle.lists.specs.Lists.{at}
 use Rattle.drainage.proofs.drain.Statement.{statement}
 use Rattle.drainage.proofs.drain.Tie as tie
-
-own-water-requires : tie.Need-own-water-requires
-own-water-requires c κs = search needs
 
 give-all-requires : tie.Need-give-all-requires
 give-all-requires c κs =
@@ -27,13 +24,10 @@ give-all-requires c κs =
       (
         omega arith,
         λ c h. let e : at (own .last .1 .0) c ≡ at (st .args .water .now) c =
-            ap (λ (l : List ℕ). at l c) (own .ensures) ∙ filled-at (at (st .args .water .now)) n (st .args .drained .now) c h in
+            ap (λ (l : List ℕ). at l c) (own .ensures) ∙ filled-at (at (st .args .water .now)) n (st .args .drainage .now) c h in
             omega (arith, at-own .before .before .before .before .before .shared-slice-known .given c),
       ),
     )
-
-same-length : tie.Need-same-length
-same-length c = search needs
 
 returns : tie.Need-returns
 returns c =
@@ -42,9 +36,9 @@ returns c =
     let st = at-own .before .before .before .before .before .before in
     let own = at-own .own-water in
     let gave = at-gave .give-all in
-    λ L r G. drained-own L r (st .args .water .now) (st .args .drained .now) (own .last .1 .0) (gave .last .1 .1 .0)
+    λ L r G. drained-own L r (st .args .water .now) (st .args .drainage .now) (own .last .1 .0) (gave .last .1 .1 .0)
     (length (st .args .water .now))
     (G .cells) (own .ensures) (gave .ensures L r G)
 
 pub drain-spec : {M : Type 1} → statement M
-drain-spec = tie.close (tie.spec own-water-requires give-all-requires same-length returns)
+drain-spec = tie.close (tie.spec (λ c κs. search needs) give-all-requires (λ c. search needs) returns)

@@ -6,16 +6,13 @@ use Prim.Native.Nat.{ℕ, _*_, _+_, _<_}
 use native.Mathlib.Omega.{arith}
 use borrow.Author.Needs.{needs}
 use Rattle.drainage.proofs.Backwards.{drained-own}
-use Rattle.lists.proofs.Entries.{filled-at}
-use Rattle.lists.proofs.Ranges.{at-tab}
+use Rattle.lists.proofs.Filled.{filled-at}
+use Rattle.lists.proofs.Tab.{tab-at}
 use Rattle.lists.specs.Lists.{at}
-use Rattle.little.proofs.Numbers.{numberAt-below}
-use Rattle.little.specs.Little.{numberAt, numbersAt}
+use Rattle.sections.proofs.Numbers.{numberAt-below}
+use Rattle.sections.specs.LittleEndian.{numberAt, numbersAt}
 use Rattle.drainage.proofs.drain_section.Statement.{statement}
 use Rattle.drainage.proofs.drain_section.Tie as tie
-
-section-water-requires : tie.Need-section-water-requires
-section-water-requires c κs = search needs
 
 give-all-requires : tie.Need-give-all-requires
 give-all-requires c κs =
@@ -31,17 +28,14 @@ give-all-requires c κs =
       (
         omega arith,
         λ c h. let e : at (own .last .1 .1 .1 .0) c ≡ numberAt 2 s (from + 2 * c) =
-            ap (λ (l : List ℕ). at l c) (own .ensures) ∙ filled-at (at (numbersAt 2 s from n)) n (st .args .drained .now) c h
-            ∙ at-tab n c (λ k. numberAt 2 s (from + 2 * k)) h in
+            ap (λ (l : List ℕ). at l c) (own .ensures) ∙ filled-at (at (numbersAt 2 s from n)) n (st .args .drainage .now) c h
+            ∙ tab-at (λ k. numberAt 2 s (from + 2 * k)) n c 0 h in
             let small : numberAt 2 s (from + 2 * c) < 65536 =
             numberAt-below 2 s (from + 2 * c)
             (λ k l. omega (arith, at-own .before .before .before .before .before .shared-slice-known .given k)) (omega arith) in
             omega arith,
       ),
     )
-
-same-length : tie.Need-same-length
-same-length c = search needs
 
 returns : tie.Need-returns
 returns c =
@@ -51,8 +45,8 @@ returns c =
     let own = at-own .section-water in
     let gave = at-gave .give-all in
     let n = st .args .n in
-    λ L r G. drained-own L r (numbersAt 2 (st .args .bytes .now) (st .args .from) n) (st .args .drained .now) (own .last .1 .1 .1 .0)
+    λ L r G. drained-own L r (numbersAt 2 (st .args .bytes .now) (st .args .from) n) (st .args .drainage .now) (own .last .1 .1 .1 .0)
     (gave .last .1 .1 .0) n (G .cells) (own .ensures) (gave .ensures L r G)
 
 pub drain-section-spec : {M : Type 1} → statement M
-drain-section-spec = tie.close (tie.spec section-water-requires give-all-requires same-length returns)
+drain-section-spec = tie.close (tie.spec (λ c κs. search needs) give-all-requires (λ c. search needs) returns)

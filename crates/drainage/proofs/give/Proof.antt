@@ -10,24 +10,6 @@ use Rattle.drainage.proofs.give.Tie as tie
 returns : tie.Need-returns
 returns c = rw (eq-eqb _ _ (sym (c .if1 .taken)))
 
-cast-both : tie.Need-cast-both
-cast-both c = search needs
-
-mul-both : tie.Need-mul-both
-mul-both c = search needs
-
-slice-read-both : tie.Need-slice-read-both
-slice-read-both c = search needs
-
-cast-both-2 : tie.Need-cast-both-2
-cast-both-2 c = search needs
-
-mul-both-2 : tie.Need-mul-both-2
-mul-both-2 c = search needs
-
-slice-read-both-2 : tie.Need-slice-read-both-2
-slice-read-both-2 c = search needs
-
 add-both : tie.Need-add-both
 add-both c =
     omega (
@@ -35,18 +17,6 @@ add-both c =
       c .before .before .before .before .before .before .before .pre .1
           (λ e. c .before .before .before .before .if1 .left (sym e)),
     )
-
-cast-drained : tie.Need-cast-drained
-cast-drained c = search needs
-
-mul-drained : tie.Need-mul-drained
-mul-drained c = search needs
-
-slice-write-drained : tie.Need-slice-write-drained
-slice-write-drained c = search needs
-
-same-length : tie.Need-same-length
-same-length c = search needs
 
 returns-2 : tie.Need-returns-2
 returns-2 c = rw (ne-eqb _ _ (λ e. c .before .before .before .before .before .if1 .left (sym e)))
@@ -56,15 +26,8 @@ give-spec =
     tie.close
     (tie.spec
     returns
-    cast-both
-    mul-both
-    slice-read-both
-    cast-both-2
-    mul-both-2
-    slice-read-both-2
+    (λ c. search needs) (λ c. search needs) (λ c. search needs) (λ c. search needs) (λ c. search needs)
+    (λ c. search needs)
     add-both
-    cast-drained
-    mul-drained
-    slice-write-drained
-    same-length
+    (λ c. search needs) (λ c. search needs) (λ c. search needs) (λ c. search needs)
     returns-2)

@@ -5,40 +5,19 @@ use Prim.Native.Nat.{ℕ, _-_, _≤_}
 use native.Mathlib.Omega.{arith}
 use lib.ListN.{length, length-set}
 use borrow.Author.Needs.{needs}
-use Rattle.lists.proofs.Fill.{filled-next, filled-none}
+use Rattle.lists.proofs.Filled.{filled-next, filled-none}
 use Rattle.lists.specs.Lists.{at, filled}
 use Rattle.drainage.proofs.own_water.Statement.{statement}
 use Rattle.drainage.proofs.own_water.Tie as tie
 
 abbrev Inv-loop : tie.InvT-loop
-Inv-loop water drained₀ c₀ drained c = (c ≤ length water) × (length drained ≡ length drained₀) × (drained ≡ filled (at water) c drained₀)
+Inv-loop water list₀ c₀ list c = (c ≤ length water) × (length list ≡ length list₀) × (list ≡ filled (at water) c list₀)
 
 abbrev μ-loop : tie.MeasureT-loop
-μ-loop water drained₀ c₀ drained c = length water - c
+μ-loop water list₀ c₀ list c = length water - c
 
 loop-holds : tie.Need-loop-holds Inv-loop μ-loop
 loop-holds c = (omega arith, refl, sym (filled-none _ _))
-
-mul-widened : tie.Need-mul-widened Inv-loop μ-loop
-mul-widened c = search needs
-
-shared-slice-read-widened : tie.Need-shared-slice-read-widened Inv-loop μ-loop
-shared-slice-read-widened c = search needs
-
-widened-requires : tie.Need-widened-requires Inv-loop μ-loop
-widened-requires c κs = search needs
-
-mul-drained : tie.Need-mul-drained Inv-loop μ-loop
-mul-drained c = search needs
-
-slice-write-drained : tie.Need-slice-write-drained Inv-loop μ-loop
-slice-write-drained c = search needs
-
-add-c : tie.Need-add-c Inv-loop μ-loop
-add-c c = search needs
-
-loop-less : tie.Need-loop-less Inv-loop μ-loop
-loop-less c = search needs
 
 loop-again : tie.Need-loop-again Inv-loop μ-loop
 loop-again c =
@@ -47,18 +26,15 @@ loop-again c =
       omega arith,
       simp length-set (lp .loop .inv .1),
       rw (c .widened .ensures, lp .loop .inv .2)
-          (filled-next (at (st .args .water .now)) (lp .loop .c) (st .args .drained .now) (omega arith)),
+          (filled-next (at (st .args .water .now)) (lp .loop .c) (st .args .drainage .now) (omega arith)),
     )
-
-same-length : tie.Need-same-length Inv-loop μ-loop
-same-length c = c .before .loop .inv .1
 
 returns : tie.Need-returns Inv-loop μ-loop
 returns c =
     let lp = c .before in
     let st = lp .before .before .before in
     let e : lp .loop .c ≡ length (st .args .water .now) = omega arith in
-    lp .loop .inv .2 ∙ ap (λ (i : ℕ). filled (at (st .args .water .now)) i (st .args .drained .now)) e
+    lp .loop .inv .2 ∙ ap (λ (i : ℕ). filled (at (st .args .water .now)) i (st .args .drainage .now)) e
 
 pub own-water-spec : {M : Type 1} → statement M
 own-water-spec =
@@ -67,13 +43,8 @@ own-water-spec =
     Inv-loop
     μ-loop
     loop-holds
-    mul-widened
-    shared-slice-read-widened
-    widened-requires
-    mul-drained
-    slice-write-drained
-    add-c
-    loop-less
+    (λ c. search needs) (λ c. search needs) (λ c κs. search needs) (λ c. search needs) (λ c. search needs)
+    (λ c. search needs) (λ c. search needs)
     loop-again
-    same-length
+    (λ c. c .before .loop .inv .1)
     returns)

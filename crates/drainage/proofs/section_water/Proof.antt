@@ -5,46 +5,22 @@ use Prim.Native.Nat.{ℕ, _*_, _+_, _-_, _≤_}
 use native.Mathlib.Omega.{arith}
 use lib.ListN.{length, length-set}
 use borrow.Author.Needs.{needs}
-use Rattle.lists.proofs.Fill.{filled-next, filled-none}
-use Rattle.lists.proofs.Ranges.{at-tab}
+use Rattle.lists.proofs.Filled.{filled-next, filled-none}
+use Rattle.lists.proofs.Tab.{tab-at}
 use Rattle.lists.specs.Lists.{at, filled}
-use Rattle.little.specs.Little.{numberAt, numbersAt}
+use Rattle.sections.specs.LittleEndian.{numberAt, numbersAt}
 use Rattle.drainage.proofs.section_water.Statement.{statement}
 use Rattle.drainage.proofs.section_water.Tie as tie
 
 abbrev Inv-loop : tie.InvT-loop
-Inv-loop bytes from n drained₀ c₀ drained c =
-    (c ≤ n) × (length drained ≡ length drained₀) × (drained ≡ filled (at (numbersAt 2 bytes from n)) c drained₀)
+Inv-loop bytes from n list₀ c₀ list c =
+    (c ≤ n) × (length list ≡ length list₀) × (list ≡ filled (at (numbersAt 2 bytes from n)) c list₀)
 
 abbrev μ-loop : tie.MeasureT-loop
-μ-loop bytes from n drained₀ c₀ drained c = n - c
+μ-loop bytes from n list₀ c₀ list c = n - c
 
 loop-holds : tie.Need-loop-holds Inv-loop μ-loop
 loop-holds c = (omega arith, refl, sym (filled-none _ _))
-
-mul-read-u16 : tie.Need-mul-read-u16 Inv-loop μ-loop
-mul-read-u16 c = search needs
-
-add-read-u16 : tie.Need-add-read-u16 Inv-loop μ-loop
-add-read-u16 c = search needs
-
-read-u16-requires : tie.Need-read-u16-requires Inv-loop μ-loop
-read-u16-requires c κs = search needs
-
-widened-requires : tie.Need-widened-requires Inv-loop μ-loop
-widened-requires c κs = search needs
-
-mul-drained : tie.Need-mul-drained Inv-loop μ-loop
-mul-drained c = search needs
-
-slice-write-drained : tie.Need-slice-write-drained Inv-loop μ-loop
-slice-write-drained c = search needs
-
-add-c : tie.Need-add-c Inv-loop μ-loop
-add-c c = search needs
-
-loop-less : tie.Need-loop-less Inv-loop μ-loop
-loop-less c = search needs
 
 loop-again : tie.Need-loop-again Inv-loop μ-loop
 loop-again c =
@@ -54,14 +30,11 @@ loop-again c =
     let n = st .args .n in
     let e : c .widened .result ≡ at (numbersAt 2 s (st .args .from) n) (lp .loop .c) =
     c .widened .ensures ∙ c .before .read-u16 .ensures
-    ∙ sym (at-tab n (lp .loop .c) (λ k. numberAt 2 s (st .args .from + 2 * k)) (omega arith)) in (
+    ∙ sym (tab-at (λ k. numberAt 2 s (st .args .from + 2 * k)) n (lp .loop .c) 0 (omega arith)) in (
       omega arith,
       simp length-set (lp .loop .inv .1),
-      rw (e, lp .loop .inv .2) (filled-next (at (numbersAt 2 s (st .args .from) n)) (lp .loop .c) (st .args .drained .now) (omega arith)),
+      rw (e, lp .loop .inv .2) (filled-next (at (numbersAt 2 s (st .args .from) n)) (lp .loop .c) (st .args .drainage .now) (omega arith)),
     )
-
-same-length : tie.Need-same-length Inv-loop μ-loop
-same-length c = c .before .loop .inv .1
 
 returns : tie.Need-returns Inv-loop μ-loop
 returns c =
@@ -69,7 +42,7 @@ returns c =
     let st = lp .before .before .before in
     let water = numbersAt 2 (st .args .bytes .now) (st .args .from) (st .args .n) in
     let e : lp .loop .c ≡ st .args .n = omega arith in
-    lp .loop .inv .2 ∙ ap (λ (i : ℕ). filled (at water) i (st .args .drained .now)) e
+    lp .loop .inv .2 ∙ ap (λ (i : ℕ). filled (at water) i (st .args .drainage .now)) e
 
 pub section-water-spec : {M : Type 1} → statement M
 section-water-spec =
@@ -78,14 +51,8 @@ section-water-spec =
     Inv-loop
     μ-loop
     loop-holds
-    mul-read-u16
-    add-read-u16
-    read-u16-requires
-    widened-requires
-    mul-drained
-    slice-write-drained
-    add-c
-    loop-less
+    (λ c. search needs) (λ c. search needs) (λ c κs. search needs) (λ c κs. search needs) (λ c. search needs)
+    (λ c. search needs) (λ c. search needs) (λ c. search needs)
     loop-again
-    same-length
+    (λ c. c .before .loop .inv .1)
     returns)

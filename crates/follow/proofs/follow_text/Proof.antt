@@ -9,20 +9,11 @@ use Rattle.text.proofs.Writing.{printed-same}
 use Rattle.follow.proofs.follow_text.Statement.{statement}
 use Rattle.follow.proofs.follow_text.Tie as tie
 
-is-question-requires : tie.Need-is-question-requires
-is-question-requires c κs = search needs
-
 answer-to-requires : tie.Need-answer-to-requires
 answer-to-requires c κs =
     let s = c .before .before .before .before .before .args .bytes .now in
     let q : Question (length s) = question (length s) (sym (c .before .before .is-question .ensures) ∙ c .before .if1 .taken) in
     (q .whole, q .short)
-
-write-answer-requires : tie.Need-write-answer-requires
-write-answer-requires c κs = search needs
-
-same-length : tie.Need-same-length
-same-length c = search needs
 
 returns : tie.Need-returns
 returns c =
@@ -31,12 +22,6 @@ returns c =
     let s = i .before .before .before .before .args .bytes .now in
     let q : Question (length s) = question (length s) (sym (i .before .is-question .ensures) ∙ i .if1 .taken) in
     printed-same (w .write-answer .ensures) (ap tracedText (w .before .answer-to .ensures) ∙ sym (asked-text s (q .listed)))
-
-write-refused-requires : tie.Need-write-refused-requires
-write-refused-requires c κs = search needs
-
-same-length-2 : tie.Need-same-length-2
-same-length-2 c = search needs
 
 returns-2 : tie.Need-returns-2
 returns-2 c =
@@ -49,11 +34,9 @@ pub follow-text-spec : {M : Type 1} → statement M
 follow-text-spec =
     tie.close
     (tie.spec
-    is-question-requires
+    (λ c κs. search needs)
     answer-to-requires
-    write-answer-requires
-    same-length
+    (λ c κs. search needs) (λ c. search needs)
     returns
-    write-refused-requires
-    same-length-2
+    (λ c κs. search needs) (λ c. search needs)
     returns-2)

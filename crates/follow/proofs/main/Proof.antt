@@ -13,47 +13,20 @@ use Rattle.follow.proofs.main.Tie as tie
 within : (c : tie.After-follow-text) → c .follow-text .result ≤ length (c .follow-text .last .1 .0)
 within c = omega (arith, c .follow-text .ensures .within, c .follow-text .kept .1 .0)
 
-slice-aggregate-read-full : tie.Need-slice-aggregate-read-full
-slice-aggregate-read-full c = search needs
-
-read-full-requires : tie.Need-read-full-requires
-read-full-requires c κs = search needs
-
-array-share-prefix-input : tie.Need-array-share-prefix-input
-array-share-prefix-input c = search needs
-
-slice-aggregate-follow-text : tie.Need-slice-aggregate-follow-text
-slice-aggregate-follow-text c = search needs
-
-slice-aggregate-follow-text-2 : tie.Need-slice-aggregate-follow-text-2
-slice-aggregate-follow-text-2 c = search needs
-
-follow-text-requires : tie.Need-follow-text-requires
-follow-text-requires c κs = search needs
-
 array-share-prefix-text : tie.Need-array-share-prefix-text
 array-share-prefix-text c = within (c .before)
 
 slice-aggregate-write-all : tie.Need-slice-aggregate-write-all
-slice-aggregate-write-all c = sym (length-take-le (c .before .before .follow-text .result) (c .before .before .follow-text .last .1 .0) (within (c .before .before)))
-
-write-all-requires : tie.Need-write-all-requires
-write-all-requires c κs = search needs
-
-returns : tie.Need-returns
-returns c = search needs
+slice-aggregate-write-all c =
+    let f = c .before .before in
+    sym (length-take-le (f .follow-text .result) (f .follow-text .last .1 .0) (within f))
 
 pub main-spec : {M : Type 1} → statement M
 main-spec =
     tie.close
     (tie.spec
-    slice-aggregate-read-full
-    read-full-requires
-    array-share-prefix-input
-    slice-aggregate-follow-text
-    slice-aggregate-follow-text-2
-    follow-text-requires
+    (λ c. search needs) (λ c κs. search needs) (λ c. search needs)
+    (λ c. search needs) (λ c. search needs) (λ c κs. search needs)
     array-share-prefix-text
     slice-aggregate-write-all
-    write-all-requires
-    returns)
+    (λ c κs. search needs) (λ c. search needs))

@@ -6,12 +6,6 @@ use Rattle.ground.proofs.Counting.{product-below}
 use Rattle.ground.proofs.cells.Statement.{statement}
 use Rattle.ground.proofs.cells.Tie as tie
 
-wide-requires : tie.Need-wide-requires
-wide-requires c κs = search needs
-
-wide-requires-2 : tie.Need-wide-requires-2
-wide-requires-2 c κs = search needs
-
 mul-result : tie.Need-mul-result
 mul-result c =
     let a = c .wide2 .ensures in
@@ -22,4 +16,4 @@ returns : tie.Need-returns
 returns c = rw (c .wide2 .ensures .0, c .before .wide .ensures .0)
 
 pub cells-spec : {M : Type 1} → statement M
-cells-spec = tie.close (tie.spec wide-requires wide-requires-2 mul-result returns)
+cells-spec = tie.close (tie.spec (λ c κs. search needs) (λ c κs. search needs) mul-result returns)

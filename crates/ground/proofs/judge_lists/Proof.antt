@@ -7,8 +7,9 @@ use borrow.Author.Needs.{needs}
 use borrow.Author.Tests.{not-false, not-true}
 use Rattle.ground.proofs.Judging.{cells-decide, judged-cells, refused-length, refused-room, refused-size}
 use Rattle.ground.proofs.SizedLists.{full, sized}
-use Rattle.ground.specs.Judge.{judgeLists, listsFull, roomFor, sizeAllowed}
+use Rattle.ground.specs.Judge.{judgeLists, listsFull, sizeAllowed}
 use Rattle.ground.specs.Record.{groundOfLists}
+use Rattle.ground.specs.Rooms.{roomFor}
 use Rattle.rules.specs.Ground.{Ground}
 use Rattle.ground.proofs.judge_lists.Statement.{statement}
 use Rattle.ground.proofs.judge_lists.Tie as tie
@@ -27,29 +28,22 @@ count-few c =
     rw (c .cells .ensures) (sized (a .width) (a .height) (size-held (c .before)) .few)
 
 -- the lists are full past the second test, and there is room past the third
-full-held : (c : tie.Else2) → listsFull (ground (c .before .before .before .before .before .before .before)) ≡ true
+full-held : (c : tie.Else2)
+    → let a = c .before .before .before .before .before .before .before .args in
+    listsFull (a .heights .now) (a .marks .now) (a .water .now) (a .height * a .width) ≡ true
 full-held c = rw (c .before .before .cells .ensures) at (sym (c .before .lists-full .ensures) ∙ not-false _ (c .if2 .left))
 
 room-held : (c : tie.Else3)
     → let a = c .before .before .before .before .before .before .before .before .before .args in
-    roomFor (a .room) (a .height * a .width) ≡ true
+    roomFor (a .room .each) (a .room .fixed) (a .room .len) (a .height * a .width) ≡ true
 room-held c =
     let n = c .before .before .before .before .cells .ensures in
     rw n at (sym (c .before .has-room .ensures) ∙ not-false _ (c .if3 .left))
-
-size-allowed-requires : tie.Need-size-allowed-requires
-size-allowed-requires c κs = search needs
 
 returns : tie.Need-returns
 unfolding judgeLists
 returns c =
     refused-size _ _ _ _ (sym (c .before .size-allowed .ensures) ∙ not-true _ (c .if1 .taken))
-
-cells-requires : tie.Need-cells-requires
-cells-requires c κs = search needs
-
-lists-full-requires : tie.Need-lists-full-requires
-lists-full-requires c κs = search needs
 
 returns-2 : tie.Need-returns-2
 unfolding judgeLists
@@ -87,10 +81,9 @@ pub judge-lists-spec : {M : Type 1} → statement M
 judge-lists-spec =
     tie.close
     (tie.spec
-    size-allowed-requires
+    (λ c κs. search needs)
     returns
-    cells-requires
-    lists-full-requires
+    (λ c κs. search needs) (λ c κs. search needs)
     returns-2
     has-room-requires
     returns-3

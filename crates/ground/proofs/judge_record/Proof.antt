@@ -11,21 +11,6 @@ unfolding judgeRecord
 returns c =
     rw (lt-leb 16 _ (c .if1 .taken))
 
-sub-from : tie.Need-sub-from
-sub-from c = search needs
-
-read-u16-requires : tie.Need-read-u16-requires
-read-u16-requires c κs = search needs
-
-add-read-u16 : tie.Need-add-read-u16
-add-read-u16 c = search needs
-
-read-u16-requires-2 : tie.Need-read-u16-requires-2
-read-u16-requires-2 c κs = search needs
-
-judge-sized-requires : tie.Need-judge-sized-requires
-judge-sized-requires c κs = search needs
-
 returns-2 : tie.Need-returns-2
 unfolding judgeRecord
 returns-2 c =
@@ -37,9 +22,6 @@ judge-record-spec =
     tie.close
     (tie.spec
     returns
-    sub-from
-    read-u16-requires
-    add-read-u16
-    read-u16-requires-2
-    judge-sized-requires
+    (λ c. search needs) (λ c κs. search needs) (λ c. search needs) (λ c κs. search needs)
+    (λ c κs. search needs)
     returns-2)

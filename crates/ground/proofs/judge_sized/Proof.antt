@@ -10,8 +10,9 @@ use borrow.Author.Needs.{needs}
 use borrow.Author.Tests.{eq-eqb, eqb-true, ne-eqb, not-false, not-true}
 use Rattle.ground.proofs.Judging.{judged-cells, refused-distance, refused-length, refused-room, refused-size}
 use Rattle.ground.proofs.SizedLists.{sized}
-use Rattle.ground.specs.Judge.{roomFor, sizeAllowed}
+use Rattle.ground.specs.Judge.{sizeAllowed}
 use Rattle.ground.specs.Record.{distancesRight}
+use Rattle.ground.specs.Rooms.{roomFor}
 use Rattle.ground.proofs.judge_sized.Statement.{statement}
 use Rattle.ground.proofs.judge_sized.Tie as tie
 
@@ -41,19 +42,13 @@ right-held c =
 
 room-held : (c : tie.Else4)
     → let a = c .before .before .before .before .before .before .before .before .before .args in
-    roomFor (a .room) (a .height * a .width) ≡ true
+    roomFor (a .room .each) (a .room .fixed) (a .room .len) (a .height * a .width) ≡ true
 room-held c =
     let n = c .before .before .before .before .before .cells .ensures in
     rw n at (sym (c .before .has-room .ensures) ∙ not-false _ (c .if4 .left))
 
-size-allowed-requires : tie.Need-size-allowed-requires
-size-allowed-requires c κs = search needs
-
 returns : tie.Need-returns
 returns c = refused-size _ _ _ _ (sym (c .before .size-allowed .ensures) ∙ not-true _ (c .if1 .taken))
-
-cells-requires : tie.Need-cells-requires
-cells-requires c κs = search needs
 
 mul-if2 : tie.Need-mul-if2
 mul-if2 c = omega (arith, count-few c)
@@ -105,9 +100,9 @@ pub judge-sized-spec : {M : Type 1} → statement M
 judge-sized-spec =
     tie.close
     (tie.spec
-    size-allowed-requires
+    (λ c κs. search needs)
     returns
-    cells-requires
+    (λ c κs. search needs)
     mul-if2
     add-if2
     returns-2

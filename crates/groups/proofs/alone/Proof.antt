@@ -21,30 +21,12 @@ abbrev μ-loop : tie.MeasureT-loop
 loop-holds : tie.Need-loop-holds Inv-loop μ-loop
 loop-holds c = (search needs, refl, refl)
 
-cast-group : tie.Need-cast-group Inv-loop μ-loop
-cast-group c = search needs
-
-mul-group : tie.Need-mul-group Inv-loop μ-loop
-mul-group c = search needs
-
-slice-write-group : tie.Need-slice-write-group Inv-loop μ-loop
-slice-write-group c = search needs
-
-add-b : tie.Need-add-b Inv-loop μ-loop
-add-b c = search needs
-
-loop-less : tie.Need-loop-less Inv-loop μ-loop
-loop-less c = search needs
-
 loop-again : tie.Need-loop-again Inv-loop μ-loop
 loop-again c =
     let lp = c .before in
     let g = lp .before .args .group .now in
     let b = lp .loop .b in
     (search needs, length-set (lp .loop .group) b b ∙ lp .loop .inv .1, rw (lp .loop .inv .2) (upto-next g b (omega arith)))
-
-same-length : tie.Need-same-length Inv-loop μ-loop
-same-length c = c .before .loop .inv .1
 
 returns : tie.Need-returns Inv-loop μ-loop
 returns c =
@@ -60,11 +42,7 @@ alone-spec =
     Inv-loop
     μ-loop
     loop-holds
-    cast-group
-    mul-group
-    slice-write-group
-    add-b
-    loop-less
+    (λ c. search needs) (λ c. search needs) (λ c. search needs) (λ c. search needs) (λ c. search needs)
     loop-again
-    same-length
+    (λ c. c .before .loop .inv .1)
     returns)

@@ -22,39 +22,12 @@ abbrev μ-loop : tie.MeasureT-loop
 loop-holds : tie.Need-loop-holds Inv-loop μ-loop
 loop-holds c = (refl, c .pre .0, record { down = c .pre .1; roots = λ x. refl }, refl)
 
-cast-i : tie.Need-cast-i Inv-loop μ-loop
-cast-i c = search needs
-
-mul-up : tie.Need-mul-up Inv-loop μ-loop
-mul-up c = search needs
-
-slice-read-up : tie.Need-slice-read-up Inv-loop μ-loop
-slice-read-up c = search needs
-
-same-length : tie.Need-same-length Inv-loop μ-loop
-same-length c = c .before .before .loop .inv .0
-
 returns : tie.Need-returns Inv-loop μ-loop
 returns c =
     let lp = c .before .before in
     let s = lp .loop .inv .2 in
     let x = lp .loop .x in
     (sym (root-self (lp .loop .group) (s .down) x (c .if1 .taken)) ∙ s .roots x ∙ lp .loop .inv .3, s)
-
-cast-top : tie.Need-cast-top Inv-loop μ-loop
-cast-top c = let lp = c .before .before in omega (arith, lp .loop .inv .2 .down (lp .loop .x))
-
-mul-top : tie.Need-mul-top Inv-loop μ-loop
-mul-top c = let lp = c .before .before in omega (arith, lp .loop .inv .2 .down (lp .loop .x))
-
-slice-read-top : tie.Need-slice-read-top Inv-loop μ-loop
-slice-read-top c = let lp = c .before .before .before in omega (arith, lp .loop .inv .2 .down (lp .loop .x))
-
-mul-group : tie.Need-mul-group Inv-loop μ-loop
-mul-group c = search needs
-
-slice-write-group : tie.Need-slice-write-group Inv-loop μ-loop
-slice-write-group c = search needs
 
 loop-less : tie.Need-loop-less Inv-loop μ-loop
 loop-less c =
@@ -87,15 +60,12 @@ find-spec =
     Inv-loop
     μ-loop
     loop-holds
-    cast-i
-    mul-up
-    slice-read-up
-    same-length
+    (λ c. search needs) (λ c. search needs) (λ c. search needs)
+    (λ c. c .before .before .loop .inv .0)
     returns
-    cast-top
-    mul-top
-    slice-read-top
-    mul-group
-    slice-write-group
+    (λ c. let lp = c .before .before in omega (arith, lp .loop .inv .2 .down (lp .loop .x)))
+    (λ c. let lp = c .before .before in omega (arith, lp .loop .inv .2 .down (lp .loop .x)))
+    (λ c. let lp = c .before .before .before in omega (arith, lp .loop .inv .2 .down (lp .loop .x)))
+    (λ c. search needs) (λ c. search needs)
     loop-less
     loop-again)

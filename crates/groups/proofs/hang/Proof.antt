@@ -6,36 +6,12 @@ use Rattle.groups.proofs.Merging.{hung-over, hung-under}
 use Rattle.groups.proofs.hang.Statement.{statement}
 use Rattle.groups.proofs.hang.Tie as tie
 
-cast-group : tie.Need-cast-group
-cast-group c = search needs
-
-mul-group : tie.Need-mul-group
-mul-group c = search needs
-
-slice-write-group : tie.Need-slice-write-group
-slice-write-group c = search needs
-
-cast-group-2 : tie.Need-cast-group-2
-cast-group-2 c = search needs
-
-mul-group-2 : tie.Need-mul-group-2
-mul-group-2 c = search needs
-
-slice-write-group-2 : tie.Need-slice-write-group-2
-slice-write-group-2 c = search needs
-
-same-length : tie.Need-same-length
-same-length c = search needs
-
 returns : tie.Need-returns
 returns c =
     let st = c .before .before .before .before in
     let a = st .args in
     let w = st .pre in
     hung-under (a .group .now) (w .0) (a .p .0) (a .q .0) (omega arith) (w .2 .0) (w .1 .1) (w .2 .1)
-
-same-length-2 : tie.Need-same-length-2
-same-length-2 c = search needs
 
 returns-2 : tie.Need-returns-2
 returns-2 c =
@@ -48,13 +24,8 @@ pub hang-spec : {M : Type 1} → statement M
 hang-spec =
     tie.close
     (tie.spec
-    cast-group
-    mul-group
-    slice-write-group
-    cast-group-2
-    mul-group-2
-    slice-write-group-2
-    same-length
+    (λ c. search needs) (λ c. search needs) (λ c. search needs) (λ c. search needs) (λ c. search needs)
+    (λ c. search needs) (λ c. search needs)
     returns
-    same-length-2
+    (λ c. search needs)
     returns-2)

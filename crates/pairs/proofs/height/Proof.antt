@@ -1,35 +1,20 @@
 -- `pairs::height` meets its contract: the greater of the heights of the pair's two cells.
 -- Assumes nothing.
+use native.Mathlib.Omega.{arith}
 use borrow.Author.Needs.{needs}
+use Rattle.pairs.proofs.Pairs.{side-rises}
 use Rattle.pairs.proofs.height.Statement.{statement}
 use Rattle.pairs.proofs.height.Tie as tie
 
-lesser-requires : tie.Need-lesser-requires
-lesser-requires c κs = search needs
-
-greater-requires : tie.Need-greater-requires
-greater-requires c κs = search needs
-
-cast-most-u32 : tie.Need-cast-most-u32
-cast-most-u32 c = search needs
-
-mul-most-u32 : tie.Need-mul-most-u32
-mul-most-u32 c = search needs
-
 shared-slice-read-most-u32 : tie.Need-shared-slice-read-most-u32
-shared-slice-read-most-u32 c = search needs
-
-cast-most-u32-2 : tie.Need-cast-most-u32-2
-cast-most-u32-2 c = search needs
-
-mul-most-u32-2 : tie.Need-mul-most-u32-2
-mul-most-u32-2 c = search needs
+shared-slice-read-most-u32 c =
+    let st = c .before .before .before .before .before in
+    omega (arith, side-rises (st .args .w) (st .args .p))
 
 shared-slice-read-most-u32-2 : tie.Need-shared-slice-read-most-u32-2
-shared-slice-read-most-u32-2 c = search needs
-
-most-u32-requires : tie.Need-most-u32-requires
-most-u32-requires c κs = search needs
+shared-slice-read-most-u32-2 c =
+    let st = c .before .before .before .before .before .before .before in
+    omega (arith, side-rises (st .args .w) (st .args .p))
 
 returns : tie.Need-returns
 returns c =
@@ -41,13 +26,9 @@ pub height-spec : {M : Type 1} → statement M
 height-spec =
     tie.close
     (tie.spec
-    lesser-requires
-    greater-requires
-    cast-most-u32
-    mul-most-u32
+    (λ c κs. search needs) (λ c κs. search needs) (λ c. search needs) (λ c. search needs)
     shared-slice-read-most-u32
-    cast-most-u32-2
-    mul-most-u32-2
+    (λ c. search needs) (λ c. search needs)
     shared-slice-read-most-u32-2
-    most-u32-requires
+    (λ c κs. search needs)
     returns)

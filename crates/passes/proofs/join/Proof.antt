@@ -2,33 +2,21 @@
 -- Assumes nothing.
 use native.Mathlib.Omega.{arith}
 use borrow.Author.Needs.{needs}
+use Rattle.grid.specs.Window.{sides}
+use Rattle.pairs.proofs.Pairs.{side-rises}
 use Rattle.pairs.specs.Pairs.{greaterOf, lesserOf}
 use Rattle.passes.proofs.join.Statement.{statement}
 use Rattle.passes.proofs.join.Tie as tie
 
-lesser-requires : tie.Need-lesser-requires
-lesser-requires c κs = search needs
-
-greater-requires : tie.Need-greater-requires
-greater-requires c κs = search needs
-
-cast-t9 : tie.Need-cast-t9
-cast-t9 c = search needs
-
-mul-t10 : tie.Need-mul-t10
-mul-t10 c = search needs
-
 shared-slice-read-t12 : tie.Need-shared-slice-read-t12
-shared-slice-read-t12 c = search needs
-
-cast-t14 : tie.Need-cast-t14
-cast-t14 c = search needs
-
-mul-t15 : tie.Need-mul-t15
-mul-t15 c = search needs
+shared-slice-read-t12 c =
+    let st = c .before .before .before .before .before .before .before in
+    omega (arith, side-rises (st .args .w) (st .args .p))
 
 shared-slice-read-t17 : tie.Need-shared-slice-read-t17
-shared-slice-read-t17 c = search needs
+shared-slice-read-t17 c =
+    let st = c .before .before .before .before .before .before .before .before .before in
+    omega (arith, side-rises (st .args .w) (st .args .p))
 
 unite-requires : tie.Need-unite-requires
 unite-requires c κs =
@@ -36,13 +24,10 @@ unite-requires c κs =
     let near = far .before in
     let st = near .before .before .before in
     let in-groups = st .pre .1 .1 in (
-      rw (near .lesser .ensures) (in-groups (lesserOf (st .args .p)) (omega (arith, st .pre .1 .0))),
-      rw (far .greater .ensures) (in-groups (greaterOf (st .args .w) (st .args .p)) (st .pre .1 .0)),
+      rw (near .lesser .ensures) (in-groups (lesserOf sides (st .args .p)) (omega (arith, st .pre .1 .0, side-rises (st .args .w) (st .args .p)))),
+      rw (far .greater .ensures) (in-groups (greaterOf sides (st .args .w) (st .args .p)) (st .pre .1 .0)),
       st .pre .0 .2,
     )
-
-same-length : tie.Need-same-length
-same-length c = search needs
 
 returns : tie.Need-returns
 returns c =
@@ -54,14 +39,10 @@ pub join-spec : {M : Type 1} → statement M
 join-spec =
     tie.close
     (tie.spec
-    lesser-requires
-    greater-requires
-    cast-t9
-    mul-t10
+    (λ c κs. search needs) (λ c κs. search needs) (λ c. search needs) (λ c. search needs)
     shared-slice-read-t12
-    cast-t14
-    mul-t15
+    (λ c. search needs) (λ c. search needs)
     shared-slice-read-t17
     unite-requires
-    same-length
+    (λ c. search needs)
     returns)

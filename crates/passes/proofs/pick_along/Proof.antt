@@ -5,13 +5,15 @@ use Prim.Native.Nat.{_-_, _<_, _≤_}
 use native.Mathlib.Omega.{arith}
 use lib.ListN.{length}
 use borrow.Author.Needs.{needs}
-use Rattle.lists.proofs.Ranges.{length-range}
-use Rattle.passes.proofs.PickTurns.{labels-in, next-on, Picking, picking-all, picking-next, picking-none}
+use Rattle.grid.specs.Window.{sides}
+use Rattle.lists.proofs.Range.{range-length}
+use Rattle.pairs.specs.Pairs.{crossingOf}
+use Rattle.passes.proofs.PickTurns.{greater-on, labels-in, Picking, picking-all, picking-next, picking-none}
 use Rattle.passes.proofs.pick_along.Statement.{statement}
 use Rattle.passes.proofs.pick_along.Tie as tie
 
 abbrev Inv-loop : tie.InvT-loop
-Inv-loop w labels group₀ list₀ m₀ i₀ group list m i = (i ≤ length list₀) × Picking w labels list₀ m i group list
+Inv-loop w labels group₀ list₀ m₀ i₀ group list m i = (i ≤ length list₀) × Picking (crossingOf sides w) labels list₀ m i group list
 
 abbrev μ-loop : tie.MeasureT-loop
 μ-loop w labels group₀ list₀ m₀ i₀ group list m i = length list₀ - i
@@ -19,60 +21,37 @@ abbrev μ-loop : tie.MeasureT-loop
 loop-holds : tie.Need-loop-holds Inv-loop μ-loop
 loop-holds c = (omega arith, picking-none _ _ _ _ (c .before .before .before .pre .1))
 
-mul-p : tie.Need-mul-p Inv-loop μ-loop
-mul-p c = search needs
-
-slice-read-p : tie.Need-slice-read-p Inv-loop μ-loop
-slice-read-p c = search needs
-
 join-requires : tie.Need-join-requires Inv-loop μ-loop
 join-requires c κs =
     let test = c .before .before in
     let lp = test .before in
-    let given = lp .before .before .before .before .pre .0 in
+    let st = lp .before .before .before .before in
+    let given = st .pre .0 .1 in
     let Q = lp .loop .inv .1 in
-    let l : lp .loop .i < length (lp .before .before .before .before .args .list .now) = omega (arith, Q .long, test .loop-test .taken) in
-    ((given .1 .narrow, given .1 .few, Q .groups .down), (next-on Q given l, labels-in Q given l))
-
-mul-list : tie.Need-mul-list Inv-loop μ-loop
-mul-list c = search needs
+    let l : lp .loop .i < length (st .args .list .now) = omega (arith, Q .long, test .loop-test .taken) in
+    ((st .pre .0 .0, given .1 .few, Q .groups .down), (greater-on Q given l, labels-in Q given l))
 
 slice-write-list : tie.Need-slice-write-list Inv-loop μ-loop
 slice-write-list c =
     let test = c .before .before .before .before .before in
     omega (arith, test .before .loop .inv .1 .behind, test .loop-test .taken)
 
-cast-m : tie.Need-cast-m Inv-loop μ-loop
-cast-m c = search needs
-
-add-m : tie.Need-add-m Inv-loop μ-loop
-add-m c = search needs
-
-add-i : tie.Need-add-i Inv-loop μ-loop
-add-i c = search needs
-
-loop-less : tie.Need-loop-less Inv-loop μ-loop
-loop-less c = search needs
-
 loop-again : tie.Need-loop-again Inv-loop μ-loop
 loop-again c =
     let j = c .before .before .join in
     let test = c .before .before .before .before .before in
     let lp = test .before in
-    let given = lp .before .before .before .before .pre .0 in
+    let given = lp .before .before .before .before .pre .0 .1 in
     let Q = lp .loop .inv .1 in (
       omega (arith, Q .long, test .loop-test .taken),
-      picking-next Q given (omega (arith, Q .long, test .loop-test .taken)) (j .ensures .0) (j .ensures .1) (j .kept .1 .1 .1 .0),
+      picking-next Q given (omega (arith, Q .long, test .loop-test .taken)) _ _ (j .ensures .0) (j .ensures .1) (j .kept .1 .1 .1 .0),
     )
 
 same-length : tie.Need-same-length Inv-loop μ-loop
 same-length c =
     let lp = c .before in
-    let given = ap length (lp .before .before .before .before .pre .1) ∙ length-range 4097 0 in
+    let given = ap length (lp .before .before .before .before .pre .1) ∙ range-length 4097 0 in
     lp .loop .inv .1 .sized ∙ sym given
-
-same-length-2 : tie.Need-same-length-2 Inv-loop μ-loop
-same-length-2 c = c .before .loop .inv .1 .long
 
 returns : tie.Need-returns Inv-loop μ-loop
 returns c =
@@ -86,16 +65,12 @@ pick-along-spec =
     Inv-loop
     μ-loop
     loop-holds
-    mul-p
-    slice-read-p
+    (λ c. search needs) (λ c. search needs)
     join-requires
-    mul-list
+    (λ c. search needs)
     slice-write-list
-    cast-m
-    add-m
-    add-i
-    loop-less
+    (λ c. search needs) (λ c. search needs) (λ c. search needs) (λ c. search needs)
     loop-again
     same-length
-    same-length-2
+    (λ c. c .before .loop .inv .1 .long)
     returns)

@@ -1,10 +1,13 @@
 -- `records::fill_trailer` meets its contract: five numbers, one after the other.
 -- Assumes nothing.
+use mathlib.Core.Path.{_∙_}
 use Prim.Native.Nat.{_≤_}
 use native.Mathlib.Omega.{arith}
 use borrow.Author.Needs.{needs}
-use Rattle.lists.proofs.Grid.{rows-fit}
+use Rattle.grid.proofs.Rows.{rows-fit}
+use Rattle.lists.proofs.Stored.{stored-start}
 use Rattle.records.proofs.Sections.{trailer-done}
+use Rattle.sections.specs.LittleEndian.{bytesOf}
 use Rattle.records.proofs.fill_trailer.Statement.{statement}
 use Rattle.records.proofs.fill_trailer.Tie as tie
 
@@ -14,42 +17,21 @@ count-few c =
     let s = c .before .before in
     rw (c .cells .ensures) (rows-fit (s .args .height) (s .args .width) (s .pre .2) (s .pre .1))
 
-cells-requires : tie.Need-cells-requires
-cells-requires c κs = search needs
-
 cast-n : tie.Need-cast-n
 cast-n c = omega (arith, count-few c)
 
-write-u16-requires : tie.Need-write-u16-requires
-write-u16-requires c κs = search needs
-
-write-u16-requires-2 : tie.Need-write-u16-requires-2
-write-u16-requires-2 c κs = search needs
-
 mul-write-u32 : tie.Need-mul-write-u32
 mul-write-u32 c = omega (arith, count-few (c .before .before .before .before .before .before .before .before .before))
-
-write-u32-requires : tie.Need-write-u32-requires
-write-u32-requires c κs = search needs
 
 mul-write-u32-2 : tie.Need-mul-write-u32-2
 mul-write-u32-2 c =
     let k = c .before .before .before .before .before .before .before .before .before .before .before .before .before in
     omega (arith, count-few k)
 
-write-u32-requires-2 : tie.Need-write-u32-requires-2
-write-u32-requires-2 c κs = search needs
-
 mul-write-u32-3 : tie.Need-mul-write-u32-3
 mul-write-u32-3 c =
     let k = c .before .before .before .before .before .before .before .before .before in
     omega (arith, count-few (k .before .before .before .before .before .before .before .before))
-
-write-u32-requires-3 : tie.Need-write-u32-requires-3
-write-u32-requires-3 c κs = search needs
-
-same-length : tie.Need-same-length
-same-length c = search needs
 
 returns : tie.Need-returns
 returns c =
@@ -62,7 +44,7 @@ returns c =
     let s = k .before .before in
     let n = k .cells .ensures in
     trailer-done (s .args .width) (s .args .height) (s .args .part .now) (s .pre .0)
-    (c1 .write-u16 .ensures)
+    (c1 .write-u16 .ensures ∙ stored-start (bytesOf 2 (s .args .width)) (s .args .part .now))
     (c2 .write-u162 .ensures)
     (rw n at (c3 .write-u32 .ensures))
     (rw n at (c4 .write-u322 .ensures))
@@ -72,15 +54,13 @@ pub fill-trailer-spec : {M : Type 1} → statement M
 fill-trailer-spec =
     tie.close
     (tie.spec
-    cells-requires
+    (λ c κs. search needs)
     cast-n
-    write-u16-requires
-    write-u16-requires-2
+    (λ c κs. search needs) (λ c κs. search needs)
     mul-write-u32
-    write-u32-requires
+    (λ c κs. search needs)
     mul-write-u32-2
-    write-u32-requires-2
+    (λ c κs. search needs)
     mul-write-u32-3
-    write-u32-requires-3
-    same-length
+    (λ c κs. search needs) (λ c. search needs)
     returns)

@@ -1,17 +1,17 @@
 -- `records::read_record` meets its contract: only an accepted record is read, and all of it.
 -- Assumes nothing.
 use mathlib.Core.Path.{refl, sym, _∙_, _≡_}
-use Prim.Native.Nat.{min}
+use Prim.Native.Nat.{min, _*_, _+_}
 use native.Mathlib.Omega.{arith}
 use lib.ListN.{length}
 use borrow.Author.Needs.{needs}
 use borrow.Author.Tests.{leb-true}
-use Rattle.ground.proofs.Acceptance.{AcceptedRecord, record-accepted}
-use Rattle.ground.proofs.Judging.{record-room}
+use Rattle.ground.proofs.Acceptance.{record-accepted}
+use Rattle.ground.specs.Accepted.{AcceptedRecord}
 use Rattle.ground.specs.Judge.{judgeRecord}
 use Rattle.ground.specs.Record.{groundOfRecord}
-use Rattle.records.proofs.Reading.{heights-read, lists-hold, marks-read, water-read}
-use Rattle.records.specs.Rooms.{listsHold}
+use Rattle.records.proofs.Reading.{heights-read, marks-read, water-read}
+use Rattle.ground.specs.Rooms.{listsHold}
 use Rattle.rules.specs.Ground.{cellsOf}
 use Rattle.records.proofs.read_record.Statement.{statement}
 use Rattle.records.proofs.read_record.Tie as tie
@@ -20,11 +20,7 @@ use Rattle.records.proofs.read_record.Tie as tie
 judged-at : (c : tie.After-judge-record)
     → let a = c .before .before .before .before .before .before .args in
     c .judge-record .result ≡ judgeRecord (listsHold (a .heights .now) (a .marks .now) (a .water .now)) (a .bytes .now)
-judged-at c =
-    let a = c .before .before .before .before .before .before .args in
-    c .judge-record .ensures
-    ∙ record-room (a .bytes .now)
-    (lists-hold (a .heights .now) (a .marks .now) (a .water .now) (c .before .before .least .ensures) (c .before .least2 .ensures))
+judged-at c = rw (c .before .least2 .ensures, c .before .before .least .ensures) at (c .judge-record .ensures)
 
 accepted-at : (c : tie.After-judged2)
     → let a = c .before .before .before .before .before .before .before .before .args in
@@ -35,24 +31,6 @@ accepted-at c =
     record-accepted (listsHold (a .heights .now) (a .marks .now) (a .water .now)) (a .bytes .now)
     (sym (judged-at (c .before .before)) ∙ c .judged2 .given .1)
 
-least-requires : tie.Need-least-requires
-least-requires c κs = search needs
-
-least-requires-2 : tie.Need-least-requires-2
-least-requires-2 c κs = search needs
-
-judge-record-requires : tie.Need-judge-record-requires
-judge-record-requires c κs = search needs
-
-enum-known-judged : tie.Need-enum-known-judged
-enum-known-judged c = search needs
-
-enum-known-judged-2 : tie.Need-enum-known-judged-2
-enum-known-judged-2 c = search needs
-
-cells-requires : tie.Need-cells-requires
-cells-requires c κs = search needs
-
 read-cells-requires : tie.Need-read-cells-requires
 read-cells-requires c κs =
     let k = c .before .before .before in
@@ -62,21 +40,12 @@ read-cells-requires c κs =
     let f = accepted-at m in
     let n : k .cells .result ≡ cellsOf (groundOfRecord (a .bytes .now)) = k .cells .ensures ∙ rw (f .width-is, f .height-is) in
     let shortest = min (length (a .heights .now)) (min (length (a .marks .now)) (length (a .water .now))) in
-    let r = leb-true (cellsOf (groundOfRecord (a .bytes .now))) shortest (f .roomy) in
+    let r = leb-true (1 * cellsOf (groundOfRecord (a .bytes .now)) + 0) shortest (f .roomy) in
     let l = f .long in
     (omega arith, omega arith, omega arith, omega arith)
 
 returns : tie.Need-returns
 returns c = (sym (c .before .judged .given .1) ∙ judged-at (c .before .before .before), (refl, (refl, refl)))
-
-same-length : tie.Need-same-length
-same-length c = search needs
-
-same-length-2 : tie.Need-same-length-2
-same-length-2 c = search needs
-
-same-length-3 : tie.Need-same-length-3
-same-length-3 c = search needs
 
 returns-2 : tie.Need-returns-2
 returns-2 c =
@@ -88,7 +57,7 @@ returns-2 c =
     let n : k .cells .result ≡ cellsOf (groundOfRecord (a .bytes .now)) = k .cells .ensures ∙ rw (f .width-is, f .height-is) in
     let answer = sym (m .judged2 .given .1) ∙ judged-at (m .before .before) in
     let heights = heights-read (a .bytes .now) n (a .heights .now) (r .read-cells .ensures .0) in
-    let marks = marks-read (a .bytes .now) n (a .marks .now) (f .long) (r .read-cells .ensures .1 .0) in
+    let marks = marks-read (a .bytes .now) n (a .marks .now) (r .read-cells .ensures .1 .0) in
     let water = water-read (a .bytes .now) n (a .water .now) (r .read-cells .ensures .1 .1) in
     (answer, (heights, (marks, water)))
 
@@ -96,15 +65,9 @@ pub read-record-spec : {M : Type 1} → statement M
 read-record-spec =
     tie.close
     (tie.spec
-    least-requires
-    least-requires-2
-    judge-record-requires
-    enum-known-judged
-    enum-known-judged-2
-    cells-requires
+    (λ c κs. search needs) (λ c κs. search needs) (λ c κs. search needs) (λ c. search needs)
+    (λ c. search needs) (λ c κs. search needs)
     read-cells-requires
     returns
-    same-length
-    same-length-2
-    same-length-3
+    (λ c. search needs) (λ c. search needs) (λ c. search needs)
     returns-2)

@@ -5,9 +5,10 @@ use Prim.Native.Nat.{_*_, _+_}
 use lib.ListN.{length}
 use borrow.Author.Needs.{needs}
 use borrow.Author.Tests.{leb-true}
-use Rattle.ground.proofs.Acceptance.{AcceptedLists, lists-accepted}
+use Rattle.ground.proofs.Acceptance.{lists-accepted}
+use Rattle.ground.specs.Accepted.{AcceptedLists}
 use Rattle.ground.specs.Record.{groundOfLists}
-use Rattle.records.specs.Rooms.{recordHolds}
+use Rattle.ground.specs.Rooms.{recordHolds}
 use Rattle.records.proofs.write_record.Statement.{statement}
 use Rattle.records.proofs.write_record.Tie as tie
 
@@ -22,15 +23,6 @@ accepted-at c =
     lists-accepted (recordHolds (a .bytes .now)) (groundOfLists (a .width) (a .height) (a .heights .now) (a .marks .now) (a .water .now))
     (sym (c .before .before .judge-lists .ensures) ∙ c .enum-told .given .1)
 
-judge-lists-requires : tie.Need-judge-lists-requires
-judge-lists-requires c κs = search needs
-
-enum-known-judged : tie.Need-enum-known-judged
-enum-known-judged c = search needs
-
-enum-told : tie.Need-enum-told
-enum-told c = search needs
-
 write-sections-requires : tie.Need-write-sections-requires
 write-sections-requires c κs =
     let a = c .before .before .before .before .before .before .before .args in
@@ -39,9 +31,6 @@ write-sections-requires c κs =
 
 returns : tie.Need-returns
 returns c = (sym (c .before .judged .given .1) ∙ c .before .before .before .judge-lists .ensures, refl)
-
-same-length : tie.Need-same-length
-same-length c = search needs
 
 returns-2 : tie.Need-returns-2
 returns-2 c =
@@ -54,10 +43,8 @@ pub write-record-spec : {M : Type 1} → statement M
 write-record-spec =
     tie.close
     (tie.spec
-    judge-lists-requires
-    enum-known-judged
-    enum-told
+    (λ c κs. search needs) (λ c. search needs) (λ c. search needs)
     write-sections-requires
     returns
-    same-length
+    (λ c. search needs)
     returns-2)

@@ -1,38 +1,14 @@
 -- `records::write_sections` meets its contract: each section is stored next to what was stored before it.
 -- Assumes nothing.
+use mathlib.Core.Path.{_∙_}
 use borrow.Author.Needs.{needs}
 use Rattle.ground.proofs.Acceptance.{good-full}
 use Rattle.ground.specs.Record.{groundOfLists}
+use Rattle.heights.specs.Bits.{heightSection}
+use Rattle.lists.proofs.Stored.{stored-start}
 use Rattle.records.proofs.Sections.{record-done}
 use Rattle.records.proofs.write_sections.Statement.{statement}
 use Rattle.records.proofs.write_sections.Tie as tie
-
-cells-requires : tie.Need-cells-requires
-cells-requires c κs = search needs
-
-write-section-heights-requires : tie.Need-write-section-heights-requires
-write-section-heights-requires c κs = search needs
-
-mul-write-section-u8 : tie.Need-mul-write-section-u8
-mul-write-section-u8 c = search needs
-
-write-section-u8-requires : tie.Need-write-section-u8-requires
-write-section-u8-requires c κs = search needs
-
-mul-write-section-u16 : tie.Need-mul-write-section-u16
-mul-write-section-u16 c = search needs
-
-write-section-u16-requires : tie.Need-write-section-u16-requires
-write-section-u16-requires c κs = search needs
-
-mul-write-trailer : tie.Need-mul-write-trailer
-mul-write-trailer c = search needs
-
-write-trailer-requires : tie.Need-write-trailer-requires
-write-trailer-requires c κs = search needs
-
-same-length : tie.Need-same-length
-same-length c = search needs
 
 returns : tie.Need-returns
 returns c =
@@ -45,19 +21,13 @@ returns c =
     let a = s .args in
     let g = groundOfLists (a .width) (a .height) (a .heights .now) (a .marks .now) (a .water .now) in
     record-done g (good-full g (s .pre .0)) (a .bytes .now) (k .cells .result) (k .cells .ensures)
-    (c1 .write-section-heights .ensures) (c2 .write-section-u8 .ensures) (c3 .write-section-u16 .ensures) (c4 .write-trailer .ensures)
+    (c1 .write-section-heights .ensures ∙ stored-start (heightSection (a .heights .now)) (a .bytes .now))
+    (c2 .write-section-u8 .ensures) (c3 .write-section-u16 .ensures) (c4 .write-trailer .ensures)
 
 pub write-sections-spec : {M : Type 1} → statement M
 write-sections-spec =
     tie.close
     (tie.spec
-    cells-requires
-    write-section-heights-requires
-    mul-write-section-u8
-    write-section-u8-requires
-    mul-write-section-u16
-    write-section-u16-requires
-    mul-write-trailer
-    write-trailer-requires
-    same-length
+    (λ c κs. search needs) (λ c κs. search needs) (λ c. search needs) (λ c κs. search needs)
+    (λ c. search needs) (λ c κs. search needs) (λ c. search needs) (λ c κs. search needs) (λ c. search needs)
     returns)

@@ -26,45 +26,6 @@ abbrev μ-loop : tie.MeasureT-loop
 loop-holds : tie.Need-loop-holds Inv-loop μ-loop
 loop-holds c = (refl, omega arith, puts-none _ 0 0 _ refl)
 
-add-loop : tie.Need-add-loop Inv-loop μ-loop
-add-loop c = search needs
-
-slice-read-flags : tie.Need-slice-read-flags Inv-loop μ-loop
-slice-read-flags c = search needs
-
-mul-kept : tie.Need-mul-kept Inv-loop μ-loop
-mul-kept c = search needs
-
-shared-slice-read-kept : tie.Need-shared-slice-read-kept Inv-loop μ-loop
-shared-slice-read-kept c = search needs
-
-add-kept : tie.Need-add-kept Inv-loop μ-loop
-add-kept c = search needs
-
-mul-kept-2 : tie.Need-mul-kept-2 Inv-loop μ-loop
-mul-kept-2 c = search needs
-
-shared-slice-read-kept-2 : tie.Need-shared-slice-read-kept-2 Inv-loop μ-loop
-shared-slice-read-kept-2 c = search needs
-
-add-kept-2 : tie.Need-add-kept-2 Inv-loop μ-loop
-add-kept-2 c = search needs
-
-shared-slice-read-kept-3 : tie.Need-shared-slice-read-kept-3 Inv-loop μ-loop
-shared-slice-read-kept-3 c = search needs
-
-add-kept-3 : tie.Need-add-kept-3 Inv-loop μ-loop
-add-kept-3 c = search needs
-
-sub-kept : tie.Need-sub-kept Inv-loop μ-loop
-sub-kept c = search needs
-
-shared-slice-read-kept-4 : tie.Need-shared-slice-read-kept-4 Inv-loop μ-loop
-shared-slice-read-kept-4 c = search needs
-
-kept-requires : tie.Need-kept-requires Inv-loop μ-loop
-kept-requires c κs = search needs
-
 add-flags : tie.Need-add-flags Inv-loop μ-loop
 add-flags c =
     let test = c .before .before .before .before .before .before in
@@ -76,15 +37,6 @@ add-flags c =
     let e = lp .loop .inv .2 .outside i (inr (omega arith)) in
     let q = c .kept .ensures ∙ flag-in (a .side) (a .n) (a .labels .now) (at (a .sq .now)) i h in
     omega (arith, e, st .pre .0, st .pre .1 .1 i (omega arith), q, flag-most (a .side) (a .n) (a .labels .now) (at (a .sq .now)) i)
-
-slice-write-flags : tie.Need-slice-write-flags Inv-loop μ-loop
-slice-write-flags c = search needs
-
-add-c : tie.Need-add-c Inv-loop μ-loop
-add-c c = search needs
-
-loop-less : tie.Need-loop-less Inv-loop μ-loop
-loop-less c = search needs
 
 loop-again : tie.Need-loop-again Inv-loop μ-loop
 loop-again c =
@@ -102,9 +54,6 @@ loop-again c =
           (omega (arith, st .pre .1 .0)) (rw (e, q)),
     )
 
-same-length : tie.Need-same-length Inv-loop μ-loop
-same-length c = c .before .loop .inv .0
-
 returns : tie.Need-returns Inv-loop μ-loop
 returns c =
     let lp = c .before in
@@ -118,23 +67,11 @@ add-flags-spec =
     Inv-loop
     μ-loop
     loop-holds
-    add-loop
-    slice-read-flags
-    mul-kept
-    shared-slice-read-kept
-    add-kept
-    mul-kept-2
-    shared-slice-read-kept-2
-    add-kept-2
-    shared-slice-read-kept-3
-    add-kept-3
-    sub-kept
-    shared-slice-read-kept-4
-    kept-requires
+    (λ c. search needs) (λ c. search needs) (λ c. search needs) (λ c. search needs) (λ c. search needs)
+    (λ c. search needs) (λ c. search needs) (λ c. search needs) (λ c. search needs) (λ c. search needs)
+    (λ c. search needs) (λ c. search needs) (λ c κs. search needs)
     add-flags
-    slice-write-flags
-    add-c
-    loop-less
+    (λ c. search needs) (λ c. search needs) (λ c. search needs)
     loop-again
-    same-length
+    (λ c. c .before .loop .inv .0)
     returns)

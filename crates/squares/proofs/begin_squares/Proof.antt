@@ -22,24 +22,6 @@ abbrev μ-loop : tie.MeasureT-loop
 loop-holds : tie.Need-loop-holds Inv-loop μ-loop
 loop-holds c = (refl, omega arith, puts-none _ 0 0 _ refl)
 
-add-loop : tie.Need-add-loop Inv-loop μ-loop
-add-loop c = search needs
-
-add-loop-2 : tie.Need-add-loop-2 Inv-loop μ-loop
-add-loop-2 c = search needs
-
-square-requires : tie.Need-square-requires Inv-loop μ-loop
-square-requires c κs = search needs
-
-slice-write-sq : tie.Need-slice-write-sq Inv-loop μ-loop
-slice-write-sq c = search needs
-
-add-c : tie.Need-add-c Inv-loop μ-loop
-add-c c = search needs
-
-loop-less : tie.Need-loop-less Inv-loop μ-loop
-loop-less c = search needs
-
 loop-again : tie.Need-loop-again Inv-loop μ-loop
 loop-again c =
     let lp = c .before .before in
@@ -49,9 +31,6 @@ loop-again c =
       puts-next (greatestSide (a .w) (a .heights .now) (a .labels .now)) (c .square .result) (lp .loop .inv .2) (omega arith)
           (omega arith) (c .square .ensures),
     )
-
-same-length : tie.Need-same-length Inv-loop μ-loop
-same-length c = c .before .loop .inv .0
 
 returns : tie.Need-returns Inv-loop μ-loop
 returns c =
@@ -66,12 +45,8 @@ begin-squares-spec =
     Inv-loop
     μ-loop
     loop-holds
-    add-loop
-    add-loop-2
-    square-requires
-    slice-write-sq
-    add-c
-    loop-less
+    (λ c. search needs) (λ c. search needs) (λ c κs. search needs) (λ c. search needs) (λ c. search needs)
+    (λ c. search needs)
     loop-again
-    same-length
+    (λ c. c .before .loop .inv .0)
     returns)

@@ -19,41 +19,11 @@ abbrev μ-loop : tie.MeasureT-loop
 loop-holds : tie.Need-loop-holds Inv-loop μ-loop
 loop-holds c = (omega arith, packing-none _ _)
 
-shared-slice-read-f : tie.Need-shared-slice-read-f Inv-loop μ-loop
-shared-slice-read-f c = search needs
-
 cast-f : tie.Need-cast-f Inv-loop μ-loop
 cast-f c =
     let lp = c .before .before in
     let f = lp .before .pre .3 (lp .loop .c) (omega arith) in
     omega (arith, f)
-
-mul-list : tie.Need-mul-list Inv-loop μ-loop
-mul-list c = search needs
-
-cast-list : tie.Need-cast-list Inv-loop μ-loop
-cast-list c = search needs
-
-mul-list-2 : tie.Need-mul-list-2 Inv-loop μ-loop
-mul-list-2 c = search needs
-
-slice-write-list : tie.Need-slice-write-list Inv-loop μ-loop
-slice-write-list c = search needs
-
-add-k : tie.Need-add-k Inv-loop μ-loop
-add-k c = search needs
-
-mul-list-3 : tie.Need-mul-list-3 Inv-loop μ-loop
-mul-list-3 c = search needs
-
-add-list : tie.Need-add-list Inv-loop μ-loop
-add-list c = search needs
-
-cast-list-2 : tie.Need-cast-list-2 Inv-loop μ-loop
-cast-list-2 c = search needs
-
-mul-list-4 : tie.Need-mul-list-4 Inv-loop μ-loop
-mul-list-4 c = search needs
 
 slice-write-list-2 : tie.Need-slice-write-list-2 Inv-loop μ-loop
 slice-write-list-2 c =
@@ -67,20 +37,11 @@ add-k-2 c =
     let f = lp .before .pre .3 (lp .loop .c) (omega arith) in
     omega (arith, f, lp .loop .inv .1 .most)
 
-add-c : tie.Need-add-c Inv-loop μ-loop
-add-c c = search needs
-
-loop-less : tie.Need-loop-less Inv-loop μ-loop
-loop-less c = search needs
-
 loop-again : tie.Need-loop-again Inv-loop μ-loop
 loop-again c =
     let lp = c .before .before in
     let st = lp .before in
     (omega arith, packing-next (at (st .args .flags .now)) (lp .loop .inv .1) (omega arith) (st .pre .3 (lp .loop .c) (omega arith)))
-
-same-length : tie.Need-same-length Inv-loop μ-loop
-same-length c = c .before .loop .inv .1 .long
 
 returns : tie.Need-returns Inv-loop μ-loop
 returns c =
@@ -95,21 +56,13 @@ compress-spec =
     Inv-loop
     μ-loop
     loop-holds
-    shared-slice-read-f
+    (λ c. search needs)
     cast-f
-    mul-list
-    cast-list
-    mul-list-2
-    slice-write-list
-    add-k
-    mul-list-3
-    add-list
-    cast-list-2
-    mul-list-4
+    (λ c. search needs) (λ c. search needs) (λ c. search needs) (λ c. search needs) (λ c. search needs)
+    (λ c. search needs) (λ c. search needs) (λ c. search needs) (λ c. search needs)
     slice-write-list-2
     add-k-2
-    add-c
-    loop-less
+    (λ c. search needs) (λ c. search needs)
     loop-again
-    same-length
+    (λ c. c .before .loop .inv .1 .long)
     returns)

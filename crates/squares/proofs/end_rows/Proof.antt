@@ -17,34 +17,28 @@ abbrev μ-loop : tie.MeasureT-loop
 μ-loop w n sq₀ e₀ sq e = n - e
 
 sub-e : tie.Need-sub-e Inv-loop μ-loop
-sub-e c = let h = c .pre .0 .wide in search needs
+sub-e c = let h = c .pre .0 .rows .wide in search needs
 
 loop-holds : tie.Need-loop-holds Inv-loop μ-loop
-loop-holds c = (refl, ending-none (c .pre .0) _)
-
-slice-write-sq : tie.Need-slice-write-sq Inv-loop μ-loop
-slice-write-sq c = search needs
+loop-holds c = (refl, ending-none (c .pre .0 .rows) _)
 
 add-e : tie.Need-add-e Inv-loop μ-loop
 add-e c = let st = c .before .before in omega (arith, st .pre .0 .narrow, st .pre .0 .few)
 
 loop-less : tie.Need-loop-less Inv-loop μ-loop
-loop-less c = let st = c .before .before in let h = st .pre .0 .wide in omega arith
+loop-less c = let st = c .before .before in let h = st .pre .0 .rows .wide in omega arith
 
 loop-again : tie.Need-loop-again Inv-loop μ-loop
 loop-again c =
     let lp = c .before in
     let st = lp .before in
-    (simp length-set (lp .loop .inv .0), ending-next (st .pre .0) (lp .loop .e) (st .pre .1) (c .loop-test .taken) (lp .loop .inv .1))
-
-same-length : tie.Need-same-length Inv-loop μ-loop
-same-length c = c .before .loop .inv .0
+    (simp length-set (lp .loop .inv .0), ending-next (st .pre .0 .rows) (lp .loop .e) (st .pre .1) (c .loop-test .taken) (lp .loop .inv .1))
 
 returns : tie.Need-returns Inv-loop μ-loop
 returns c =
     let lp = c .before in
     let st = lp .before in
-    ending-all (st .pre .0) (lp .loop .e) (omega arith) (lp .loop .inv .1)
+    ending-all (st .pre .0 .rows) (lp .loop .e) (omega arith) (lp .loop .inv .1)
 
 pub end-rows-spec : {M : Type 1} → statement M
 end-rows-spec =
@@ -54,9 +48,9 @@ end-rows-spec =
     μ-loop
     sub-e
     loop-holds
-    slice-write-sq
+    (λ c. search needs)
     add-e
     loop-less
     loop-again
-    same-length
+    (λ c. c .before .loop .inv .0)
     returns)

@@ -6,15 +6,6 @@ use borrow.Author.Tests.{eq-eqb, ne-eqb}
 use Rattle.squares.proofs.key.Statement.{statement}
 use Rattle.squares.proofs.key.Tie as tie
 
-most-u32-requires : tie.Need-most-u32-requires
-most-u32-requires c κs = search needs
-
-mul-k : tie.Need-mul-k
-mul-k c = search needs
-
-add-k : tie.Need-add-k
-add-k c = search needs
-
 returns : tie.Need-returns
 returns c = rw (eq-eqb _ _ (c .if1 .taken))
 
@@ -22,4 +13,4 @@ returns-2 : tie.Need-returns-2
 returns-2 c = rw (ne-eqb _ _ (c .if1 .left), c .before .most-u32 .ensures)
 
 pub key-spec : {M : Type 1} → statement M
-key-spec = tie.close (tie.spec most-u32-requires mul-k add-k returns returns-2)
+key-spec = tie.close (tie.spec (λ c κs. search needs) (λ c. search needs) (λ c. search needs) returns returns-2)

@@ -8,48 +8,33 @@ use native.Mathlib.Omega.{arith}
 use lib.ListN.{getD-replicate, length, replicate}
 use borrow.Author.Needs.{needs}
 use Rattle.lists.specs.Lists.{at}
+use Rattle.rules.specs.Land.{rule4}
 use Rattle.squares.proofs.Listing.{flags-small, listed, right-small}
 use Rattle.squares.specs.Listing.{Listable}
-use Rattle.tiles.proofs.Laws.{tile-grid}
 use Rattle.squares.proofs.list_pairs.Statement.{statement}
 use Rattle.squares.proofs.list_pairs.Tie as tie
 
-no-flags : {w : ℕ} {heights labels list : List ℕ} → Listable w heights labels list → (c : ℕ) → c < length heights
+no-flags : {w : ℕ} {heights labels list : List ℕ} → Listable rule4 w heights labels list → (c : ℕ) → c < length heights
     → at (replicate 4096 0) c ≡ 0
-no-flags S c h = getD-replicate 4096 c 0 0 (omega (arith, S .tile .few))
-
-slice-aggregate-margined-squares : tie.Need-slice-aggregate-margined-squares
-slice-aggregate-margined-squares c = search needs
+no-flags S c h = getD-replicate 4096 c 0 0 (omega (arith, S .tile .grid .few))
 
 margined-squares-requires : tie.Need-margined-squares-requires
 margined-squares-requires c κs =
     let S = c .before .before .before .before .pre in (
-      ((S .tile .few, S .tile .low), S .sized),
-      ((tile-grid (S .tile), omega (arith, S .tile .few)), λ i h. getD-replicate 4160 i 4 0 (omega (arith, h, S .tile .few))),
+      ((S .tile .grid .few, S .tile .lifted), S .sized),
+      ((S .tile .grid, omega (arith, S .tile .grid .few)), λ i h. getD-replicate 4160 i 4 0 (omega (arith, h, S .tile .grid .few))),
     )
-
-slice-aggregate-add-flags : tie.Need-slice-aggregate-add-flags
-slice-aggregate-add-flags c = search needs
-
-slice-aggregate-add-flags-2 : tie.Need-slice-aggregate-add-flags-2
-slice-aggregate-add-flags-2 c = search needs
 
 add-flags-requires : tie.Need-add-flags-requires
 add-flags-requires c κs =
     let squared = c .before .before .before in
     let S = squared .before .before .before .before .before .pre in (
-      (omega arith, S .tile .narrow, omega arith),
+      (omega arith, S .tile .grid .narrow, omega arith),
       (
-        (S .tile .few, omega (arith, S .sized), omega (arith, S .tile .few, squared .margined-squares .kept), S .tile .few),
+        (S .tile .grid .few, omega (arith, S .sized), omega (arith, S .tile .grid .few, squared .margined-squares .kept), S .tile .grid .few),
         λ i h. let z = no-flags S i h in omega (arith, z),
       ),
     )
-
-slice-aggregate-add-flags-3 : tie.Need-slice-aggregate-add-flags-3
-slice-aggregate-add-flags-3 c = search needs
-
-slice-aggregate-add-flags-4 : tie.Need-slice-aggregate-add-flags-4
-slice-aggregate-add-flags-4 c = search needs
 
 add-flags-requires-2 : tie.Need-add-flags-requires-2
 add-flags-requires-2 c κs =
@@ -59,21 +44,18 @@ add-flags-requires-2 c κs =
     let S = st .pre in
     let a = st .args in
     let sq = squared .margined-squares .last .1 .1 .1 .0 in (
-      (S .tile .narrow, omega arith, omega arith),
+      (S .tile .grid .narrow, omega arith, omega arith),
       (
         (
-          S .tile .few,
+          S .tile .grid .few,
           omega (arith, S .sized),
-          omega (arith, S .tile .few, squared .margined-squares .kept),
-          omega (arith, S .tile .few, flagged .add-flags .kept),
+          omega (arith, S .tile .grid .few, squared .margined-squares .kept),
+          omega (arith, S .tile .grid .few, flagged .add-flags .kept),
         ),
         right-small (a .w) (a .heights .now) (a .labels .now) sq (squared .margined-squares .ensures)
             (no-flags S) (flagged .add-flags .ensures),
       ),
     )
-
-slice-aggregate-compress : tie.Need-slice-aggregate-compress
-slice-aggregate-compress c = search needs
 
 compress-requires : tie.Need-compress-requires
 compress-requires c κs =
@@ -84,15 +66,12 @@ compress-requires c κs =
     let S = st .pre in
     let a = st .args in
     let sq = squared .margined-squares .last .1 .1 .1 .0 in (
-      S .tile .few,
-      omega (arith, S .tile .few, both .add-flags2 .kept, flagged .add-flags .kept),
-      S .room,
+      S .tile .grid .few,
+      omega (arith, S .tile .grid .few, both .add-flags2 .kept, flagged .add-flags .kept),
+      omega (arith, S .room),
       flags-small (a .w) (a .heights .now) (a .labels .now) sq (squared .margined-squares .ensures) (no-flags S)
           (flagged .add-flags .ensures) (both .add-flags2 .ensures),
     )
-
-same-length : tie.Need-same-length
-same-length c = search needs
 
 returns : tie.Need-returns
 returns c =
@@ -104,21 +83,19 @@ returns c =
     let a = st .args in
     let sq = squared .margined-squares .last .1 .1 .1 .0 in
     listed (a .w) (a .heights .now) (a .labels .now) sq (squared .margined-squares .ensures) (no-flags (st .pre))
-    (flagged .add-flags .ensures) (both .add-flags2 .ensures) (packed .0) (packed .1)
+    (flagged .add-flags .ensures) (both .add-flags2 .ensures) (st .pre .tile .grid) (packed .0) (packed .1)
 
 pub list-pairs-spec : {M : Type 1} → statement M
 list-pairs-spec =
     tie.close
     (tie.spec
-    slice-aggregate-margined-squares
+    (λ c. search needs)
     margined-squares-requires
-    slice-aggregate-add-flags
-    slice-aggregate-add-flags-2
+    (λ c. search needs) (λ c. search needs)
     add-flags-requires
-    slice-aggregate-add-flags-3
-    slice-aggregate-add-flags-4
+    (λ c. search needs) (λ c. search needs)
     add-flags-requires-2
-    slice-aggregate-compress
+    (λ c. search needs)
     compress-requires
-    same-length
+    (λ c. search needs)
     returns)

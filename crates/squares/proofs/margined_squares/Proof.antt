@@ -6,15 +6,6 @@ use Rattle.squares.proofs.Listing.{part-fours, part-room, squares-margi
 use Rattle.squares.proofs.margined_squares.Statement.{statement}
 use Rattle.squares.proofs.margined_squares.Tie as tie
 
-sub-squares : tie.Need-sub-squares
-sub-squares c = search needs
-
-part-squares-start : tie.Need-part-squares-start
-part-squares-start c = search needs
-
-part-squares-end : tie.Need-part-squares-end
-part-squares-end c = search needs
-
 squares-requires : tie.Need-squares-requires
 squares-requires c κs =
     let st = c .before .before .before .before in
@@ -28,9 +19,6 @@ squares-requires c κs =
       ),
     )
 
-same-length : tie.Need-same-length
-same-length c = search needs
-
 returns : tie.Need-returns
 returns c =
     let begun = c .before .before in
@@ -41,4 +29,4 @@ returns c =
 pub margined-squares-spec : {M : Type 1} → statement M
 margined-squares-spec =
     tie.close
-    (tie.spec sub-squares part-squares-start part-squares-end squares-requires same-length returns)
+    (tie.spec (λ c. search needs) (λ c. search needs) (λ c. search needs) squares-requires (λ c. search needs) returns)

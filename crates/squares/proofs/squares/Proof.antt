@@ -6,15 +6,6 @@ use Rattle.squares.proofs.Listing.{squares-filled}
 use Rattle.squares.proofs.squares.Statement.{statement}
 use Rattle.squares.proofs.squares.Tie as tie
 
-begin-squares-requires : tie.Need-begin-squares-requires
-begin-squares-requires c κs = search needs
-
-end-rows-requires : tie.Need-end-rows-requires
-end-rows-requires c κs = search needs
-
-same-length : tie.Need-same-length
-same-length c = search needs
-
 returns : tie.Need-returns
 returns c =
     let ends = c .before .before in
@@ -25,4 +16,4 @@ returns c =
     (begun .begin-squares .ensures) (ends .end-rows .ensures)
 
 pub squares-spec : {M : Type 1} → statement M
-squares-spec = tie.close (tie.spec begin-squares-requires end-rows-requires same-length returns)
+squares-spec = tie.close (tie.spec (λ c κs. search needs) (λ c κs. search needs) (λ c. search needs) returns)

@@ -4,12 +4,13 @@ use mathlib.Core.Path.{_≡_}
 use native.Mathlib.Omega.{arith}
 use lib.ListN.{length}
 use borrow.Author.Needs.{needs}
-use Rattle.first.specs.Sides.{Weighed}
-use Rattle.first_links.specs.Adding.{Leading}
+use Rattle.first_receivers.specs.Weights.{Weighed}
+use Rattle.grid.specs.Window.{sides}
+use Rattle.links.specs.Leads.{Leading}
 use Rattle.rules.specs.FirstWays.{firstReceiver}
-use Rattle.rules.specs.Land.{Land}
+use Rattle.rules.specs.Land.{Land, rule4}
+use Rattle.rules.specs.Tile.{tileLand}
 use Rattle.stages.proofs.Stages.{leading, weighed}
-use Rattle.tiles.specs.Tile.{tileLand}
 use Rattle.stages.proofs.find_first.Statement.{statement}
 use Rattle.stages.proofs.find_first.Tie as tie
 
@@ -17,7 +18,7 @@ abbrev start : tie.After-weights → tie.Start
 start c = c .before .before .before .before .before .before
 
 abbrev land : tie.After-weights → Land
-land c = let a = start c .args in tileLand (a .w) (a .heights .now) (a .marks .now)
+land c = let a = start c .args in tileLand rule4 (a .w) (a .heights .now) (a .marks .now)
 
 -- what `weights` left is what first receivers ask for
 weights-are : (c : tie.After-weights)
@@ -27,21 +28,12 @@ weights-are c = let a = start c .args in weighed (a .w) (a .heights .now) (a .ma
 
 -- and what links ask for
 weights-lead : (c : tie.After-weights)
-    → Leading (start c .args .w) (length (start c .args .heights .now)) (firstReceiver (land c)) (c .weights .last .1 .1 .1 .0)
+    → Leading sides (start c .args .w) (length (start c .args .heights .now)) (firstReceiver (land c)) (c .weights .last .1 .1 .1 .0)
 weights-lead c =
     let a = start c .args in
-    let few = start c .pre .0 .few in
+    let few = start c .pre .0 .grid .few in
     let l : length (c .weights .last .1 .1 .1 .0) ≡ 4096 = c .weights .kept .1 .1 .1 .0 in
     leading (a .w) (a .heights .now) (a .marks .now) (start c .pre .0) _ (omega arith) (c .weights .ensures)
-
-slice-aggregate-weights : tie.Need-slice-aggregate-weights
-slice-aggregate-weights c = search needs
-
-weights-requires : tie.Need-weights-requires
-weights-requires c κs = search needs
-
-slice-aggregate-first-receivers : tie.Need-slice-aggregate-first-receivers
-slice-aggregate-first-receivers c = search needs
 
 first-receivers-requires : tie.Need-first-receivers-requires
 first-receivers-requires c κs =
@@ -49,19 +41,10 @@ first-receivers-requires c κs =
     let a = start at-weights .args in
     ((a .heights .now, a .marks .now, weights-are at-weights), (weights-lead at-weights .room, start at-weights .pre .1 .0))
 
-slice-aggregate-first-links : tie.Need-slice-aggregate-first-links
-slice-aggregate-first-links c = search needs
-
-first-links-requires : tie.Need-first-links-requires
-first-links-requires c κs =
+link-leads-requires : tie.Need-link-leads-requires
+link-leads-requires c κs =
     let at-weights = c .before .before .before .before .before .before .before .before in
     ((firstReceiver (land at-weights), weights-lead at-weights), start at-weights .pre .1 .1)
-
-same-length : tie.Need-same-length
-same-length c = search needs
-
-same-length-2 : tie.Need-same-length-2
-same-length-2 c = search needs
 
 returns : tie.Need-returns
 returns c =
@@ -70,19 +53,16 @@ returns c =
     let at-weights = at-firsts .before .before .before .before in
     let a = start at-weights .args in (
       at-firsts .first-receivers .ensures (a .heights .now) (a .marks .now) (weights-are at-weights),
-      at-links .first-links .ensures (firstReceiver (land at-weights)) (weights-lead at-weights),
+      at-links .link-leads .ensures (firstReceiver (land at-weights)) (weights-lead at-weights),
     )
 
 pub find-first-spec : {M : Type 1} → statement M
 find-first-spec =
     tie.close
     (tie.spec
-    slice-aggregate-weights
-    weights-requires
-    slice-aggregate-first-receivers
+    (λ c. search needs) (λ c κs. search needs) (λ c. search needs)
     first-receivers-requires
-    slice-aggregate-first-links
-    first-links-requires
-    same-length
-    same-length-2
+    (λ c. search needs)
+    link-leads-requires
+    (λ c. search needs) (λ c. search needs)
     returns)

@@ -7,13 +7,13 @@ use lib.ListN.{length, take}
 use lib.Seq.{length-take-le}
 use borrow.Author.Needs.{needs}
 use Rattle.basins.specs.Jumps.{FirstReceivers}
-use Rattle.lists.proofs.Entries.{filled-again}
+use Rattle.lists.proofs.Filled.{filled-again}
 use Rattle.lists.specs.Lists.{filled}
 use Rattle.rules.specs.FirstWays.{basin, firstReceiver}
-use Rattle.rules.specs.Land.{Land}
+use Rattle.rules.specs.Land.{Land, rule4}
+use Rattle.rules.specs.Tile.{tileLand}
 use Rattle.stages.proofs.Stages.{firsts-are, linkable}
-use Rattle.stages.specs.Worked.{Linkable}
-use Rattle.tiles.specs.Tile.{tileLand}
+use Rattle.stages.specs.Linking.{Linkable}
 use Rattle.stages.proofs.find_links.Statement.{statement}
 use Rattle.stages.proofs.find_links.Tie as tie
 
@@ -21,49 +21,40 @@ abbrev start : tie.After-find-first → tie.Start
 start c = c .before .before .before .before .before .before .before
 
 abbrev land : tie.After-find-first → Land
-land c = let a = start c .args in tileLand (a .w) (a .heights .now) (a .marks .now)
+land c = let a = start c .args in tileLand rule4 (a .w) (a .heights .now) (a .marks .now)
 
 -- what `find_first` left is what `basin_numbers` asks for
 firsts : (c : tie.After-find-first) → FirstReceivers (land c) (length (start c .args .heights .now)) (c .find-first .last .1 .1 .1 .0)
 firsts c =
     let a = start c .args in
     let p = start c .pre in
-    firsts-are (a .w) (a .heights .now) (a .marks .now) (p .0 .0) (a .basins .now) (p .1 .0) (c .find-first .ensures .0)
+    firsts-are (p .0) (a .basins .now) (p .1 .0) (c .find-first .ensures .0)
 
 -- and what both left is what `link_passes` asks for
 links-ready : (c : tie.After-basin-numbers)
     → let a = start (c .before .before .before .before .before .before .before) .args in
-    Linkable (a .w) (a .heights .now) (a .marks .now) (take (length (a .heights .now)) (c .basin-numbers .last .1 .1 .1 .0))
+    Linkable rule4 (a .w) (a .heights .now) (a .marks .now) (take (length (a .heights .now)) (c .basin-numbers .last .1 .1 .1 .0))
     (c .before .before .before .before .before .before .before .find-first .last .1 .1 .1 .1 .0)
 links-ready c =
     let at-first = c .before .before .before .before .before .before .before in
     let a = start at-first .args in
     let p = start at-first .pre in
-    linkable (a .w) (a .heights .now) (a .marks .now) (p .0 .0) (p .0 .1) _ (a .links .now)
+    linkable (p .0) _ (a .links .now)
     (c .basin-numbers .ensures .1 (land at-first) (firsts at-first) (λ d h. refl)) (p .1 .1) (at-first .find-first .ensures .1)
-
-find-first-requires : tie.Need-find-first-requires
-find-first-requires c κs = search needs
-
-slice-aggregate-basin-numbers : tie.Need-slice-aggregate-basin-numbers
-slice-aggregate-basin-numbers c = search needs
 
 basin-numbers-requires : tie.Need-basin-numbers-requires
 basin-numbers-requires c κs =
     let at-first = c .before .before .before .before .before .before in
-    let T = start at-first .pre .0 .0 in
-    let few = T .few in
+    let T = start at-first .pre .0 .tile in
+    let few = T .grid .few in
     let m = T .marked in
     ((land at-first, firsts at-first), (omega arith, omega arith))
-
-array-share-prefix-labels : tie.Need-array-share-prefix-labels
-array-share-prefix-labels c = search needs
 
 slice-aggregate-link-passes : tie.Need-slice-aggregate-link-passes
 slice-aggregate-link-passes c =
     let at-basins = c .before .before .before .before in
     let st = start (at-basins .before .before .before .before .before .before .before) in
-    let few = st .pre .0 .0 .few in
+    let few = st .pre .0 .tile .grid .few in
     let found = at-basins .basin-numbers in
     let l : length (found .last .1 .1 .1 .0) ≡ 4096 = found .kept .1 .1 .1 .0 in
     sym (length-take-le (length (st .args .heights .now)) (found .last .1 .1 .1 .0) (omega arith))
@@ -72,12 +63,6 @@ link-passes-requires : tie.Need-link-passes-requires
 link-passes-requires c κs =
     let at-basins = c .before .before .before .before .before in
     (start (at-basins .before .before .before .before .before .before .before) .args .marks .now, links-ready at-basins)
-
-same-length : tie.Need-same-length
-same-length c = search needs
-
-same-length-2 : tie.Need-same-length-2
-same-length-2 c = search needs
 
 returns : tie.Need-returns
 returns c =
@@ -96,12 +81,10 @@ pub find-links-spec : {M : Type 1} → statement M
 find-links-spec =
     tie.close
     (tie.spec
-    find-first-requires
-    slice-aggregate-basin-numbers
+    (λ c κs. search needs) (λ c. search needs)
     basin-numbers-requires
-    array-share-prefix-labels
+    (λ c. search needs)
     slice-aggregate-link-passes
     link-passes-requires
-    same-length
-    same-length-2
+    (λ c. search needs) (λ c. search needs)
     returns)

@@ -7,12 +7,13 @@ use native.Mathlib.Omega.{arith}
 use lib.ListN.{length, take}
 use lib.Seq.{length-take-le}
 use borrow.Author.Needs.{needs}
-use Rattle.choose.specs.Choosing.{ChosenPairs}
-use Rattle.tiles.specs.Masks.{joined}
+use Rattle.grid.specs.Masks.{joined}
+use Rattle.passes.specs.Choosing.{ChosenPairs}
 use Rattle.rules.specs.FirstWays.{firstReceiver}
+use Rattle.rules.specs.Land.{rule4}
+use Rattle.rules.specs.Tile.{tileLand}
 use Rattle.stages.proofs.Stages.{addable, choosable, linkage}
-use Rattle.stages.specs.Worked.{Linkable}
-use Rattle.tiles.specs.Tile.{tileLand}
+use Rattle.stages.specs.Linking.{Linkable}
 use Rattle.stages.proofs.link_passes.Statement.{statement}
 use Rattle.stages.proofs.link_passes.Tie as tie
 
@@ -22,57 +23,48 @@ start c = c .before .before .before .before .before
 -- what `choose_pairs` left, for any marks
 chosen-are : (c : tie.After-choose-pairs) (marks : List ℕ)
     → let a = start c .args in
-    Linkable (a .w) (a .heights .now) marks (a .labels .now) (a .links .now)
-    → ChosenPairs (a .w) (a .heights .now) marks (take (c .choose-pairs .result) (c .choose-pairs .last .1 .1 .1 .0))
-chosen-are c marks K = c .choose-pairs .ensures .1 marks (choosable K _ (let few = K .tile .few in omega arith))
-
-slice-aggregate-choose-pairs : tie.Need-slice-aggregate-choose-pairs
-slice-aggregate-choose-pairs c = search needs
+    Linkable rule4 (a .w) (a .heights .now) marks (a .labels .now) (a .links .now)
+    → ChosenPairs rule4 (a .w) (a .heights .now) marks (take (c .choose-pairs .result) (c .choose-pairs .last .1 .1 .1 .0))
+chosen-are c marks K = c .choose-pairs .ensures .1 marks (choosable K _ (let few = K .land .tile .grid .few in omega arith))
 
 choose-pairs-requires : tie.Need-choose-pairs-requires
 choose-pairs-requires c κs =
     let st = c .before .before .before .before in
-    (st .pre .0, choosable (st .pre .1) _ (let few = st .pre .1 .tile .few in omega arith))
+    (st .pre .0, choosable (st .pre .1) _ (let few = st .pre .1 .land .tile .grid .few in omega arith))
 
-array-share-prefix-list : tie.Need-array-share-prefix-list
-array-share-prefix-list c = search needs
-
-slice-aggregate-carve-pairs : tie.Need-slice-aggregate-carve-pairs
-slice-aggregate-carve-pairs c =
+slice-aggregate-link-pairs : tie.Need-slice-aggregate-link-pairs
+slice-aggregate-link-pairs c =
     let chosen = c .before .before .choose-pairs in
     sym (length-take-le (chosen .result) (chosen .last .1 .1 .1 .0) (chosen .ensures .0))
 
-carve-pairs-requires : tie.Need-carve-pairs-requires
-carve-pairs-requires c κs =
+link-pairs-requires : tie.Need-link-pairs-requires
+link-pairs-requires c κs =
     let at-chosen = c .before .before .before in
     let st = start at-chosen in
     let a = st .args in (
       length (a .heights .now),
-      joined (firstReceiver (tileLand (a .w) (a .heights .now) (st .pre .0))),
+      joined (firstReceiver (tileLand rule4 (a .w) (a .heights .now) (st .pre .0))),
       addable (st .pre .1) _ (chosen-are at-chosen (st .pre .0) (st .pre .1)),
     )
 
-same-length : tie.Need-same-length
-same-length c = search needs
-
 returns : tie.Need-returns
 returns c =
-    let at-carved = c .before .before in
-    let at-chosen = at-carved .before .before .before .before in
+    let at-linked = c .before .before in
+    let at-chosen = at-linked .before .before .before .before in
     let a = start at-chosen .args in
     λ marks K.
     let C = chosen-are at-chosen marks K in
     linkage K _ C
-    (at-carved .carve-pairs .ensures (length (a .heights .now)) (joined (firstReceiver (tileLand (a .w) (a .heights .now) marks))) (addable K _ C))
+    (at-linked .link-pairs .ensures (length (a .heights .now)) (joined (firstReceiver (tileLand rule4 (a .w) (a .heights .now) marks))) (addable K _ C))
 
 pub link-passes-spec : {M : Type 1} → statement M
 link-passes-spec =
     tie.close
     (tie.spec
-    slice-aggregate-choose-pairs
+    (λ c. search needs)
     choose-pairs-requires
-    array-share-prefix-list
-    slice-aggregate-carve-pairs
-    carve-pairs-requires
-    same-length
+    (λ c. search needs)
+    slice-aggregate-link-pairs
+    link-pairs-requires
+    (λ c. search needs)
     returns)

@@ -6,15 +6,6 @@ use borrow.Author.Tests.{eq-eqb, ne-eqb}
 use Rattle.text.proofs.outlet_share.Statement.{statement}
 use Rattle.text.proofs.outlet_share.Tie as tie
 
-shared-slice-read-if1 : tie.Need-shared-slice-read-if1
-shared-slice-read-if1 c = search needs
-
-mul-result : tie.Need-mul-result
-mul-result c = search needs
-
-shared-slice-read-result : tie.Need-shared-slice-read-result
-shared-slice-read-result c = search needs
-
 cast-result : tie.Need-cast-result
 cast-result c = omega (arith, c .shared-slice-known2 .given (c .before .before .before .args .c))
 
@@ -28,9 +19,7 @@ pub outlet-share-spec : {M : Type 1} → statement M
 outlet-share-spec =
     tie.close
     (tie.spec
-    shared-slice-read-if1
-    mul-result
-    shared-slice-read-result
+    (λ c. search needs) (λ c. search needs) (λ c. search needs)
     cast-result
     returns
     returns-2)

@@ -32,16 +32,10 @@ lengths c r x d =
       drainage = length-field d 10;
     }
 
-cast-write-number : tie.Need-cast-write-number
-cast-write-number c = search needs
-
 write-number-requires : tie.Need-write-number-requires
 write-number-requires c κs =
     let a = c .before .before .before .args in
     omega (arith, lengths (a .cell .0) (a .receiver .0) (a .level) (a .drainage))
-
-cast-write-number-2 : tie.Need-cast-write-number-2
-cast-write-number-2 c = search needs
 
 write-number-requires-2 : tie.Need-write-number-requires-2
 write-number-requires-2 c κs =
@@ -58,9 +52,6 @@ write-number-requires-3 c κs =
     let a = c .before .before .before .before .before .before .before .before .before .before .before .before .before .before .before .before .args in
     omega (arith, lengths (a .cell .0) (a .receiver .0) (a .level) (a .drainage))
 
-same-length : tie.Need-same-length
-same-length c = search needs
-
 returns : tie.Need-returns
 unfolding cellLine
 returns c =
@@ -76,11 +67,11 @@ pub write-cell-spec : {M : Type 1} → statement M
 write-cell-spec =
     tie.close
     (tie.spec
-    cast-write-number
+    (λ c. search needs)
     write-number-requires
-    cast-write-number-2
+    (λ c. search needs)
     write-number-requires-2
     write-level-requires
     write-number-requires-3
-    same-length
+    (λ c. search needs)
     returns)

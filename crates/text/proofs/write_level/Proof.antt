@@ -11,9 +11,6 @@ use Rattle.text.proofs.Writing.{wrote-byte, wrote-then}
 use Rattle.text.proofs.write_level.Statement.{statement}
 use Rattle.text.proofs.write_level.Tie as tie
 
-cast-write-number : tie.Need-cast-write-number
-cast-write-number c = search needs
-
 write-number-requires : tie.Need-write-number-requires
 write-number-requires c κs =
     let a = c .before .before .before .args in
@@ -24,15 +21,6 @@ slice-write-text c =
     let a = c .before .before .args in
     omega (arith, length-level (dropped (a .level)) 32)
 
-add-write-number : tie.Need-add-write-number
-add-write-number c = search needs
-
-sub-write-number : tie.Need-sub-write-number
-sub-write-number c = search needs
-
-cast-write-number-2 : tie.Need-cast-write-number-2
-cast-write-number-2 c = search needs
-
 write-number-requires-2 : tie.Need-write-number-requires-2
 write-number-requires-2 c κs =
     let a = c .before .before .before .args in
@@ -40,9 +28,6 @@ write-number-requires-2 c κs =
     let k = ap length (level-below (a .level) (c .before .if1 .left)) in
     let f = length-field (8000000 - a .level) 32 in
     simp length-set (omega arith)
-
-same-length : tie.Need-same-length
-same-length c = search needs
 
 returns : tie.Need-returns
 returns c =
@@ -64,14 +49,12 @@ pub write-level-spec : {M : Type 1} → statement M
 write-level-spec =
     tie.close
     (tie.spec
-    cast-write-number
+    (λ c. search needs)
     write-number-requires
     slice-write-text
-    add-write-number
-    sub-write-number
-    cast-write-number-2
+    (λ c. search needs) (λ c. search needs) (λ c. search needs)
     write-number-requires-2
-    same-length
+    (λ c. search needs)
     returns
     same-length-2
     returns-2)

@@ -25,9 +25,6 @@ add-result c =
     let a = w .before .before .before .args in
     omega (arith, w .write-decimal .ensures .end, w .write-decimal .kept .0, length-append (decimal (a .n)) (a .after ∷ []))
 
-same-length : tie.Need-same-length
-same-length c = search needs
-
 returns : tie.Need-returns
 returns c =
     let w = c .before .before .write-decimal in
@@ -39,4 +36,4 @@ returns c =
 
 pub write-number-spec : {M : Type 1} → statement M
 write-number-spec =
-    tie.close (tie.spec write-decimal-requires slice-write-text add-result same-length returns)
+    tie.close (tie.spec write-decimal-requires slice-write-text add-result (λ c. search needs) returns)

@@ -24,9 +24,6 @@ write-number-requires-2 c κs =
     let a = c .before .before .before .before .before .before .before .before .before .before .before .args in
     omega (arith, length-pairLine (a .word .now) (a .first) (a .second), length-field (a .first) 32, length-field (a .second) 10)
 
-same-length : tie.Need-same-length
-same-length c = search needs
-
 returns : tie.Need-returns
 returns c =
     let third = c .before .before in
@@ -43,5 +40,5 @@ write-pair-spec =
     write-word-requires
     write-number-requires
     write-number-requires-2
-    same-length
+    (λ c. search needs)
     returns)

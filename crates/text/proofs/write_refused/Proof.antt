@@ -7,9 +7,6 @@ use Rattle.text.specs.Text.{refusedText}
 use Rattle.text.proofs.write_refused.Statement.{statement}
 use Rattle.text.proofs.write_refused.Tie as tie
 
-slice-aggregate-write-pair : tie.Need-slice-aggregate-write-pair
-slice-aggregate-write-pair c = search needs
-
 write-pair-requires : tie.Need-write-pair-requires
 unfolding refusedText
 write-pair-requires c κs =
@@ -17,13 +14,10 @@ write-pair-requires c κs =
     let a = s .args in
     omega (arith, refusedText-fits (a .number) (a .place) (omega (arith, s .fits .number)) (omega (arith, s .fits .place)))
 
-same-length : tie.Need-same-length
-same-length c = search needs
-
 returns : tie.Need-returns
 unfolding refusedText
 returns c = search needs
 
 pub write-refused-spec : {M : Type 1} → statement M
 write-refused-spec =
-    tie.close (tie.spec slice-aggregate-write-pair write-pair-requires same-length returns)
+    tie.close (tie.spec (λ c. search needs) write-pair-requires (λ c. search needs) returns)

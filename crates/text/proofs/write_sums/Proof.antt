@@ -10,9 +10,6 @@ use Rattle.text.specs.Text.{sumsLine}
 use Rattle.text.proofs.write_sums.Statement.{statement}
 use Rattle.text.proofs.write_sums.Tie as tie
 
-slice-aggregate-write-word : tie.Need-slice-aggregate-write-word
-slice-aggregate-write-word c = search needs
-
 write-word-requires : tie.Need-write-word-requires
 write-word-requires c κs =
     let a = c .before .before .before .args in
@@ -23,9 +20,6 @@ write-number-requires c κs =
     let a = c .before .before .before .before .before .before .before .args in
     omega (arith, length-sumsLine (a .out) (a .water), length-field (a .out) 32, length-field (a .water) 10)
 
-slice-aggregate-write-word-2 : tie.Need-slice-aggregate-write-word-2
-slice-aggregate-write-word-2 c = search needs
-
 write-word-requires-2 : tie.Need-write-word-requires-2
 write-word-requires-2 c κs =
     let a = c .before .before .before .before .before .before .before .before .before .before .before .before .args in
@@ -35,9 +29,6 @@ write-number-requires-2 : tie.Need-write-number-requires-2
 write-number-requires-2 c κs =
     let a = c .before .before .before .before .before .before .before .before .before .before .before .before .before .before .before .before .args in
     omega (arith, length-sumsLine (a .out) (a .water), length-field (a .out) 32, length-field (a .water) 10)
-
-same-length : tie.Need-same-length
-same-length c = search needs
 
 returns : tie.Need-returns
 unfolding sumsLine
@@ -54,11 +45,11 @@ pub write-sums-spec : {M : Type 1} → statement M
 write-sums-spec =
     tie.close
     (tie.spec
-    slice-aggregate-write-word
+    (λ c. search needs)
     write-word-requires
     write-number-requires
-    slice-aggregate-write-word-2
+    (λ c. search needs)
     write-word-requires-2
     write-number-requires-2
-    same-length
+    (λ c. search needs)
     returns)

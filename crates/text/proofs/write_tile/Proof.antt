@@ -11,7 +11,7 @@ use Rattle.text.proofs.write_tile.Tie as tie
 -- how long the text's three parts can be: the entries' bounds are those of their types
 parts : (k : tie.After-shared-slice-known5)
     → let a = k .before .before .before .before .before .before .args in
-    Parts (a .width) (a .height) (a .receivers .now) (a .levels .now) (a .drainage .now) (a .marks .now) (a .water .now)
+    Parts (a .width) (a .height) (a .n) (a .receivers .now) (a .levels .now) (a .drainage .now) (a .marks .now) (a .water .now)
 parts k =
     let s = k .before .before .before .before .before .before in
     let a = s .args in
@@ -21,8 +21,8 @@ parts k =
       drainage-32 = λ c. omega (arith, k .before .before .shared-slice-known3 .given c);
       water-16 = λ c. omega (arith, k .shared-slice-known5 .given c);
     } in
-    parts-fit (a .width) (a .height) (a .receivers .now) (a .levels .now) (a .drainage .now) (a .marks .now) (a .water .now) (a .text .now)
-    (s .pre) e
+    parts-fit (a .width) (a .height) (a .n) (a .receivers .now) (a .levels .now) (a .drainage .now) (a .marks .now) (a .water .now)
+    (a .text .now) (s .pre) e
 
 write-size-requires : tie.Need-write-size-requires
 write-size-requires c κs = omega (arith, parts (c .before) .size)
@@ -32,9 +32,10 @@ write-cells-requires c κs =
     let k = c .before .before .before .before .before in
     let p = k .before .before .before .before .before .before .pre in
     record {
-      few = omega (arith, parts k .few, p .receivers-full);
-      levels-full = omega (arith, p .levels-full, p .receivers-full);
-      drainage-full = omega (arith, p .drainage-full, p .receivers-full);
+      few = parts k .few;
+      receivers-hold = p .receivers-hold;
+      levels-hold = p .levels-hold;
+      drainage-holds = p .drainage-holds;
       room = omega (arith, parts k .size, parts k .cells, c .before .before .before .write-size .ensures .end, p .room);
     }
 
@@ -42,12 +43,12 @@ outlet-drainage-requires : tie.Need-outlet-drainage-requires
 outlet-drainage-requires c κs =
     let k = c .before .before .before .before .before .before .before .before in
     let p = k .before .before .before .before .before .before .pre in
-    (omega (arith, parts k .few, p .drainage-full), omega (arith, p .marks-full, p .drainage-full))
+    (parts k .few, p .drainage-holds, p .marks-hold)
 
 total-water-requires : tie.Need-total-water-requires
 total-water-requires c κs =
     let k = c .before .before .before .before .before .before .before .before .before in
-    omega (arith, parts k .few, k .before .before .before .before .before .before .pre .water-full)
+    (parts k .few, k .before .before .before .before .before .before .pre .water-holds)
 
 write-sums-requires : tie.Need-write-sums-requires
 write-sums-requires c κs =
@@ -58,9 +59,6 @@ write-sums-requires c κs =
     let room = k .before .before .before .before .before .before .pre .room in
     rw (c .before .total-water .ensures, c .before .before .outlet-drainage .ensures)
     (omega (arith, p .size, p .cells, p .sums, size .write-size .ensures .end, cells .write-cells .ensures .end))
-
-same-length : tie.Need-same-length
-same-length c = search needs
 
 returns : tie.Need-returns
 returns c =
@@ -79,5 +77,5 @@ write-tile-spec =
     outlet-drainage-requires
     total-water-requires
     write-sums-requires
-    same-length
+    (λ c. search needs)
     returns)

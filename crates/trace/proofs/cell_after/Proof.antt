@@ -1,11 +1,12 @@
 -- `trace::cell_after` meets its contract: after each turn the cell is one move further.
 -- Assumes nothing.
 use mathlib.Core.Path.{ap, sym, _∙_, _≡_}
-use Prim.Native.Nat.{_-_, _≤_}
+use Prim.Native.Nat.{_-_, _<_, _≤_}
 use native.Mathlib.Numerals.{add-one}
 use native.Mathlib.Omega.{arith}
+use lib.ListN.{length}
 use borrow.Author.Needs.{needs}
-use Rattle.lists.proofs.Repeats.{repeat-last}
+use Rattle.lists.proofs.Repeat.{repeat-last}
 use Rattle.lists.specs.Lists.{at, repeat}
 use Rattle.trace.proofs.cell_after.Statement.{statement}
 use Rattle.trace.proofs.cell_after.Tie as tie
@@ -16,29 +17,8 @@ Inv-loop receivers moves cell₀ counter₀ cell counter = (counter ≤ moves) �
 abbrev μ-loop : tie.MeasureT-loop
 μ-loop receivers moves cell₀ counter₀ cell counter = moves - counter
 
-loop-holds : tie.Need-loop-holds Inv-loop μ-loop
-loop-holds c = search needs
-
-cast-cell : tie.Need-cast-cell Inv-loop μ-loop
-cast-cell c =
-    let l = c .before in
-    omega (arith, l .loop .inv .1, l .before .pre .0 (l .loop .counter))
-
-mul-cell : tie.Need-mul-cell Inv-loop μ-loop
-mul-cell c =
-    let l = c .before in
-    omega (arith, l .loop .inv .1, l .before .pre .0 (l .loop .counter))
-
-shared-slice-read-cell : tie.Need-shared-slice-read-cell Inv-loop μ-loop
-shared-slice-read-cell c =
-    let l = c .before .before in
-    omega (arith, l .loop .inv .1, l .before .pre .0 (l .loop .counter))
-
-add-counter : tie.Need-add-counter Inv-loop μ-loop
-add-counter c = search needs
-
-loop-less : tie.Need-loop-less Inv-loop μ-loop
-loop-less c = search needs
+on-list : (c : tie.In-loop Inv-loop μ-loop) → c .before .loop .cell < length (c .before .before .args .receivers .now)
+on-list c = let l = c .before in omega (arith, l .loop .inv .1, l .before .pre .0 (l .loop .counter))
 
 loop-again : tie.Need-loop-again Inv-loop μ-loop
 loop-again c =
@@ -62,11 +42,10 @@ cell-after-spec =
     (tie.spec
     Inv-loop
     μ-loop
-    loop-holds
-    cast-cell
-    mul-cell
-    shared-slice-read-cell
-    add-counter
-    loop-less
+    (λ c. search needs)
+    (λ c. omega (arith, on-list c))
+    (λ c. omega (arith, on-list c))
+    (λ c. omega (arith, on-list (c .before)))
+    (λ c. search needs) (λ c. search needs)
     loop-again
     returns)

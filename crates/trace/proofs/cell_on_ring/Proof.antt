@@ -11,12 +11,6 @@ use Rattle.trace.specs.Ring.{ringLength}
 use Rattle.trace.proofs.cell_on_ring.Statement.{statement}
 use Rattle.trace.proofs.cell_on_ring.Tie as tie
 
-ring-length-requires : tie.Need-ring-length-requires
-ring-length-requires c κs = search needs
-
-rem-rest : tie.Need-rem-rest
-rem-rest c = search needs
-
 cell-after-requires : tie.Need-cell-after-requires
 cell-after-requires c κs =
     let a = c .before .before in
@@ -36,4 +30,4 @@ returns c =
 
 pub cell-on-ring-spec : {M : Type 1} → statement M
 cell-on-ring-spec =
-    tie.close (tie.spec ring-length-requires rem-rest cell-after-requires returns)
+    tie.close (tie.spec (λ c κs. search needs) (λ c. search needs) cell-after-requires returns)

@@ -3,7 +3,7 @@
 -- Assumes nothing.
 use mathlib.Core.Bool.{false}
 use mathlib.Core.Path.{ap, refl, sym, _∙_, _≡_}
-use Prim.Native.Nat.{suc, _+_, _-_, _<_}
+use Prim.Native.Nat.{suc, _+_, _-_, _<_, _≤_}
 use native.Mathlib.Nat.{not-suc-le-zero}
 use native.Mathlib.Numerals.{add-one}
 use native.Mathlib.Omega.{arith}
@@ -12,8 +12,8 @@ use borrow.Author.Count.{below-more}
 use borrow.Author.Needs.{needs}
 use borrow.Author.Tests.{eq-eqb, ne-eqb}
 use Rattle.lists.proofs.Find.{find-at}
-use Rattle.lists.proofs.Repeats.{repeat-last}
-use Rattle.lists.specs.Lent.{NoneBelow}
+use Rattle.lists.proofs.Repeat.{repeat-last}
+use Rattle.lists.specs.Find.{NoneBelow}
 use Rattle.lists.specs.Lists.{at, repeat}
 use Rattle.trace.proofs.Ring.{not-yet}
 use Rattle.trace.specs.Ring.{backAfter}
@@ -27,41 +27,20 @@ Inv-loop receivers home cell₀ more₀ cell more =
 abbrev μ-loop : tie.MeasureT-loop
 μ-loop receivers home cell₀ more₀ cell more = length receivers - more
 
-cast-cell : tie.Need-cast-cell Inv-loop μ-loop
-cast-cell c = search needs
-
-mul-cell : tie.Need-mul-cell Inv-loop μ-loop
-mul-cell c = search needs
-
 shared-slice-read-cell : tie.Need-shared-slice-read-cell Inv-loop μ-loop
 shared-slice-read-cell c = let st = c .before .before in omega (arith, st .pre .stays 0)
 
 loop-holds : tie.Need-loop-holds Inv-loop μ-loop
 loop-holds c = let st = c .before .before in (refl, λ k l. absurd (not-suc-le-zero l), omega (arith, st .pre .stays 0))
 
-cast-cell-2 : tie.Need-cast-cell-2 Inv-loop μ-loop
-cast-cell-2 c =
+on-list : (c : tie.Then1 Inv-loop μ-loop)
+    → let l = c .before .before in
+    let r = l .before .before .before .args .receivers .now in
+    (l .loop .cell < length r) × (length r ≤ 4096)
+on-list c =
     let l = c .before .before in
     let st = l .before .before .before in
-    omega (arith, st .pre .few, st .pre .stays (suc (l .loop .more)))
-
-mul-cell-2 : tie.Need-mul-cell-2 Inv-loop μ-loop
-mul-cell-2 c =
-    let l = c .before .before in
-    let st = l .before .before .before in
-    omega (arith, st .pre .few, st .pre .stays (suc (l .loop .more)))
-
-shared-slice-read-cell-2 : tie.Need-shared-slice-read-cell-2 Inv-loop μ-loop
-shared-slice-read-cell-2 c =
-    let l = c .before .before .before in
-    let st = l .before .before .before in
-    omega (arith, st .pre .stays (suc (l .loop .more)))
-
-add-more : tie.Need-add-more Inv-loop μ-loop
-add-more c = search needs
-
-loop-less : tie.Need-loop-less Inv-loop μ-loop
-loop-less c = search needs
+    (omega (arith, st .pre .stays (suc (l .loop .more))), st .pre .few)
 
 loop-again : tie.Need-loop-again Inv-loop μ-loop
 loop-again c =
@@ -73,9 +52,6 @@ loop-again c =
     let away : NoneBelow (backAfter r h) (k + 1) =
     below-more (λ j. backAfter r h j ≡ false) k (l .loop .inv .1) (ne-eqb (repeat (suc k) (at r) h) h (λ e. c .before .if1 .taken (l .loop .inv .0 ∙ e))) in
     (ap (at r) (l .loop .inv .0) ∙ rw add-one (sym (repeat-last (at r) (suc k) h)), away, not-yet r h (k + 1) (st .pre) away)
-
-add-result : tie.Need-add-result Inv-loop μ-loop
-add-result c = search needs
 
 returns : tie.Need-returns Inv-loop μ-loop
 returns c =
@@ -96,15 +72,13 @@ ring-length-spec =
     (tie.spec
     Inv-loop
     μ-loop
-    cast-cell
-    mul-cell
+    (λ c. search needs) (λ c. search needs)
     shared-slice-read-cell
     loop-holds
-    cast-cell-2
-    mul-cell-2
-    shared-slice-read-cell-2
-    add-more
-    loop-less
+    (λ c. omega (arith, on-list c))
+    (λ c. omega (arith, on-list c))
+    (λ c. omega (arith, on-list (c .before)))
+    (λ c. search needs) (λ c. search needs)
     loop-again
-    add-result
+    (λ c. search needs)
     returns)

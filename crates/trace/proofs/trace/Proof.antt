@@ -23,15 +23,6 @@ returns-3 c =
     let n = length (a .receivers .now) in
     rw (le-leb 1 n (omega arith), le-leb n 4096 (c .before .if2 .left), le-ltb (a .cell) n (c .if3 .taken))
 
-cast-t8 : tie.Need-cast-t8
-cast-t8 c = search needs
-
-walk-requires : tie.Need-walk-requires
-walk-requires c κs = search needs
-
-walk-on-requires : tie.Need-walk-on-requires
-walk-on-requires c κs = search needs
-
 returns-4 : tie.Need-returns-4
 unfolding Rules·trace
 returns-4 c =
@@ -53,8 +44,6 @@ trace-spec =
     returns
     returns-2
     returns-3
-    cast-t8
-    walk-requires
-    walk-on-requires
+    (λ c. search needs) (λ c κs. search needs) (λ c κs. search needs)
     returns-4
     returns-5)

@@ -24,15 +24,6 @@ abbrev μ-loop : tie.MeasureT-loop
 loop-holds : tie.Need-loop-holds Inv-loop μ-loop
 loop-holds c = (c .pre .0, search needs, rw sub-zero)
 
-cast-entry : tie.Need-cast-entry Inv-loop μ-loop
-cast-entry c = search needs
-
-mul-entry : tie.Need-mul-entry Inv-loop μ-loop
-mul-entry c = search needs
-
-shared-slice-read-entry : tie.Need-shared-slice-read-entry Inv-loop μ-loop
-shared-slice-read-entry c = search needs
-
 cast-index : tie.Need-cast-index Inv-loop μ-loop
 cast-index c = omega (arith, c .shared-slice-known .given (c .before .loop .cell))
 
@@ -58,12 +49,6 @@ returns-3 c =
     let o : Onward (a .receivers .now) (l .loop .cell) = record { inside = c .before .before .if1 .left; moves = c .before .if2 .left } in
     sym (l .loop .inv .2 ∙ rw e (traceFrom-spent (a .receivers .now) (l .loop .steps) (l .loop .cell) o))
 
-add-steps : tie.Need-add-steps Inv-loop μ-loop
-add-steps c = search needs
-
-loop-less : tie.Need-loop-less Inv-loop μ-loop
-loop-less c = search needs
-
 loop-again : tie.Need-loop-again Inv-loop μ-loop
 loop-again c =
     let l = c .before .before .before .before in
@@ -86,13 +71,10 @@ walk-spec =
     Inv-loop
     μ-loop
     loop-holds
-    cast-entry
-    mul-entry
-    shared-slice-read-entry
+    (λ c. search needs) (λ c. search needs) (λ c. search needs)
     cast-index
     returns
     returns-2
     returns-3
-    add-steps
-    loop-less
+    (λ c. search needs) (λ c. search needs)
     loop-again)

@@ -27,15 +27,6 @@ not-stopped BadList k d t e = let z : _≡_ {A = ℕ} 0 1 = cc in omega arith
 not-stopped BadCell k d t e = let z : _≡_ {A = ℕ} 0 1 = cc in omega arith
 not-stopped (BadEntry c) k d t e = let z : _≡_ {A = ℕ} 0 1 = cc in omega arith
 
-cast-n : tie.Need-cast-n
-cast-n c = search needs
-
-walk-requires : tie.Need-walk-requires
-walk-requires c κs = search needs
-
-enum-known-first : tie.Need-enum-known-first
-enum-known-first c = search needs
-
 returns : tie.Need-returns
 returns c =
     let w = c .before .walk in
@@ -46,9 +37,6 @@ returns c =
     w .ensures
     ∙ sym (traceFrom-ended r n (a .args .budget - n) 0 (a .args .start .0) (λ d t q. not-stopped (w .result) (c .match .keys2) d t (w .ensures ∙ q)))
     ∙ ap (λ (k : ℕ). traceFrom r k 0 (a .args .start .0)) e
-
-sub-cell-on-ring : tie.Need-sub-cell-on-ring
-sub-cell-on-ring c = search needs
 
 cell-on-ring-requires : tie.Need-cell-on-ring-requires
 cell-on-ring-requires c κs =
@@ -68,10 +56,8 @@ pub walk-on-spec : {M : Type 1} → statement M
 walk-on-spec =
     tie.close
     (tie.spec
-    cast-n
-    walk-requires
-    enum-known-first
+    (λ c. search needs) (λ c κs. search needs) (λ c. search needs)
     returns
-    sub-cell-on-ring
+    (λ c. search needs)
     cell-on-ring-requires
     returns-2)

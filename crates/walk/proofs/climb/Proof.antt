@@ -8,21 +8,23 @@ use Prim.Native.Nat.{ℕ, _+_, _-_, _<_, _≤_}
 use native.Mathlib.Omega.{arith}
 use lib.ListN.{length}
 use borrow.Author.Needs.{needs}
+use Rattle.grid.specs.Window.{sides}
 use Rattle.lists.specs.Lists.{at}
-use Rattle.tiles.specs.Tile.{tileLand}
+use Rattle.rules.specs.Land.{rule4}
+use Rattle.rules.specs.Tile.{tileLand}
 use Rattle.walk.proofs.Midst.{begin, finish, Midst, still-room}
 use Rattle.walk.proofs.Tops.{bits-fit, cell-on, receiver-there, room, top}
 use Rattle.walk.proofs.Turns.{turn}
 use Rattle.walk.specs.Climb.{cellIn, maskIn, ones, Ready, receiverIn}
-use Rattle.walk.specs.Walk.{lent, Lent, Margin, Room}
+use Rattle.walk.specs.Walk.{lent, Lent, Margin, LentHolds}
 use Rattle.walk.proofs.climb.Statement.{statement}
 use Rattle.walk.proofs.climb.Tie as tie
 
 abbrev Inv-loop : tie.InvT-loop
 Inv-loop w heights links stack₀ order₀ receivers₀ levels₀ wets₀ top₀ written₀ stack order receivers levels wets top written =
-    (marks : List ℕ) → (r : List ℕ) → Margin w heights marks links r
-    → Ready w heights marks r (lent stack₀ order₀ receivers₀ levels₀ wets₀) (top₀ .0)
-    → Midst w (tileLand w heights marks) r (lent stack₀ order₀ receivers₀ levels₀ wets₀) (lent stack order receivers levels wets)
+    (marks : List ℕ) → (r : List ℕ) → Margin rule4 w heights marks links r
+    → Ready sides w (tileLand rule4 w heights marks) r (lent stack₀ order₀ receivers₀ levels₀ wets₀) (top₀ .0)
+    → Midst sides w (tileLand rule4 w heights marks) r (lent stack₀ order₀ receivers₀ levels₀ wets₀) (lent stack order receivers levels wets)
     (written .0) (top .0)
 
 abbrev μ-loop : tie.MeasureT-loop
@@ -42,7 +44,7 @@ held lp = lent (lp .loop .stack) (lp .loop .order) (lp .loop .receivers) (lp .lo
 
 -- the invariant at the marks and the receivers that are required
 midst : (lp : tie.At-loop Inv-loop μ-loop)
-    → Midst (start lp .args .w) (tileLand (start lp .args .w) (start lp .args .heights .now) (start lp .pre .0 .0)) (start lp .pre .0 .1)
+    → Midst sides (start lp .args .w) (tileLand rule4 (start lp .args .w) (start lp .args .heights .now) (start lp .pre .0 .0)) (start lp .pre .0 .1)
     (given lp) (held lp) (lp .loop .written .0) (lp .loop .top .0)
 midst lp = let p = start lp .pre .0 in lp .loop .inv (p .0) (p .1) (p .2) (p .3)
 
@@ -59,23 +61,23 @@ record Turn (lp : tie.At-loop Inv-loop μ-loop) : Type 0 where
   pub wide : 0 < start lp .args .w
   pub narrow : start lp .args .w ≤ 64
   pub margin : cells lp + 128 ≤ length (start lp .args .links .now)
-  pub fits : Room (cells lp) (held lp)
+  pub fits : LentHolds (cells lp) (held lp)
   pub here : lp .loop .top .0 < cells lp
   pub more : lp .loop .written .0 < cells lp
-  pub cell-on : cellIn (entry lp) < cells lp
-  pub receiver-there : receiverIn (entry lp) < cells lp
-  pub bits : ones (maskIn (entry lp)) ≤ lp .loop .top .0
+  pub cell-on : cellIn sides (entry lp) < cells lp
+  pub receiver-there : receiverIn sides (entry lp) < cells lp
+  pub bits : ones sides (maskIn sides (entry lp)) ≤ lp .loop .top .0
 
 turn-here : (lp : tie.At-loop Inv-loop μ-loop) → lp .loop .top .0 < cells lp → Turn lp
 turn-here lp t =
     let M = start lp .pre .0 .2 in
     let I = midst lp in
-    let fits = still-room M I (start lp .pre .1) in
+    let fits = still-room (M .inside .drains) I (start lp .pre .1) in
     let T = top M I t (fits .fits-stack) in
     record {
-      few = M .inside .tile .few;
-      wide = M .inside .tile .wide;
-      narrow = M .inside .tile .narrow;
+      few = M .inside .tile .grid .few;
+      wide = M .inside .tile .grid .rows .wide;
+      narrow = M .inside .tile .grid .narrow;
       margin = M .wide;
       fits = fits;
       here = t;
@@ -86,25 +88,13 @@ turn-here lp t =
     }
 
 loop-holds : tie.Need-loop-holds Inv-loop μ-loop
-loop-holds c = λ marks r M R. begin M R
-
-cast-if1 : tie.Need-cast-if1 Inv-loop μ-loop
-cast-if1 c = search needs
-
-cast-t14 : tie.Need-cast-t14 Inv-loop μ-loop
-cast-t14 c = search needs
+loop-holds c = λ marks r M R. begin (M .inside .drains) R
 
 mul-t15 : tie.Need-mul-t15 Inv-loop μ-loop
 mul-t15 c = omega (arith, turn-here (c .before .before .before) (c .before .if1 .taken))
 
 slice-read-t18 : tie.Need-slice-read-t18 Inv-loop μ-loop
 slice-read-t18 c = omega (arith, turn-here (c .before .before .before .before) (c .before .before .if1 .taken))
-
-cell-requires : tie.Need-cell-requires Inv-loop μ-loop
-cell-requires c κs = search needs
-
-cast-order : tie.Need-cast-order Inv-loop μ-loop
-cast-order c = search needs
 
 mul-order : tie.Need-mul-order Inv-loop μ-loop
 mul-order c =
@@ -115,9 +105,6 @@ slice-write-order : tie.Need-slice-write-order Inv-loop μ-loop
 slice-write-order c =
     let tested = c .before .before .before .before in
     omega (arith, turn-here (tested .before .before) (tested .if1 .taken))
-
-mask-requires : tie.Need-mask-requires Inv-loop μ-loop
-mask-requires c κs = search needs
 
 visit-requires : tie.Need-visit-requires Inv-loop μ-loop
 visit-requires c κs =
@@ -130,9 +117,6 @@ visit-requires c κs =
       (T .wide, T .narrow, omega arith, omega arith, c .mask .ensures .1),
       (rw (c .mask .ensures .0) (T .bits), omega arith, omega arith),
     )
-
-receiver-requires : tie.Need-receiver-requires Inv-loop μ-loop
-receiver-requires c κs = search needs
 
 settle-requires : tie.Need-settle-requires Inv-loop μ-loop
 settle-requires c κs =
@@ -190,7 +174,7 @@ same-length-5 c = midst (c .before .before) .noted-wets .size
 returns : tie.Need-returns Inv-loop μ-loop
 returns c =
     let lp = c .before .before in
-    λ marks r M R. finish M (lp .loop .inv marks r M R) (c .if1 .left) (start lp .pre .1)
+    λ marks r M R. finish (M .inside .drains) (lp .loop .inv marks r M R) (c .if1 .left) (start lp .pre .1)
 
 pub climb-spec : {M : Type 1} → statement M
 climb-spec =
@@ -199,17 +183,15 @@ climb-spec =
     Inv-loop
     μ-loop
     loop-holds
-    cast-if1
-    cast-t14
+    (λ c. search needs) (λ c. search needs)
     mul-t15
     slice-read-t18
-    cell-requires
-    cast-order
+    (λ c κs. search needs) (λ c. search needs)
     mul-order
     slice-write-order
-    mask-requires
+    (λ c κs. search needs)
     visit-requires
-    receiver-requires
+    (λ c κs. search needs)
     settle-requires
     add-t31
     loop-less

@@ -5,7 +5,7 @@ use Prim.Native.Nat.{ℕ, _-_, _≤_}
 use native.Mathlib.Omega.{arith}
 use lib.ListN.{length, length-set}
 use borrow.Author.Needs.{needs}
-use Rattle.lists.proofs.Fill.{filled-next, filled-none}
+use Rattle.lists.proofs.Filled.{filled-next, filled-none}
 use Rattle.lists.specs.Lists.{at, filled}
 use Rattle.walk.proofs.note_heights.Statement.{statement}
 use Rattle.walk.proofs.note_heights.Tie as tie
@@ -20,24 +20,6 @@ abbrev μ-loop : tie.MeasureT-loop
 loop-holds : tie.Need-loop-holds Inv-loop μ-loop
 loop-holds c = (omega arith, refl, sym (filled-none _ _))
 
-mul-levels : tie.Need-mul-levels Inv-loop μ-loop
-mul-levels c = search needs
-
-shared-slice-read-levels : tie.Need-shared-slice-read-levels Inv-loop μ-loop
-shared-slice-read-levels c = search needs
-
-mul-levels-2 : tie.Need-mul-levels-2 Inv-loop μ-loop
-mul-levels-2 c = search needs
-
-slice-write-levels : tie.Need-slice-write-levels Inv-loop μ-loop
-slice-write-levels c = search needs
-
-add-c : tie.Need-add-c Inv-loop μ-loop
-add-c c = search needs
-
-loop-less : tie.Need-loop-less Inv-loop μ-loop
-loop-less c = search needs
-
 loop-again : tie.Need-loop-again Inv-loop μ-loop
 loop-again c =
     let lp = c .before .before in
@@ -49,9 +31,6 @@ loop-again c =
       length-set (lp .loop .levels) (lp .loop .c) (at (st .args .heights .now) (lp .loop .c)) ∙ i .1,
       rw (i .2) (filled-next (at (st .args .heights .now)) (lp .loop .c) (st .args .levels .now) (omega arith)),
     )
-
-same-length : tie.Need-same-length Inv-loop μ-loop
-same-length c = c .before .loop .inv .1
 
 returns : tie.Need-returns Inv-loop μ-loop
 returns c =
@@ -68,12 +47,8 @@ note-heights-spec =
     Inv-loop
     μ-loop
     loop-holds
-    mul-levels
-    shared-slice-read-levels
-    mul-levels-2
-    slice-write-levels
-    add-c
-    loop-less
+    (λ c. search needs) (λ c. search needs) (λ c. search needs) (λ c. search needs) (λ c. search needs)
+    (λ c. search needs)
     loop-again
-    same-length
+    (λ c. c .before .loop .inv .1)
     returns)

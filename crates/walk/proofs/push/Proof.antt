@@ -8,24 +8,6 @@ use Rattle.walk.proofs.Pushing.{kept-push}
 use Rattle.walk.proofs.push.Statement.{statement}
 use Rattle.walk.proofs.push.Tie as tie
 
-cast-stack : tie.Need-cast-stack
-cast-stack c = search needs
-
-sub-stack : tie.Need-sub-stack
-sub-stack c = search needs
-
-mul-stack : tie.Need-mul-stack
-mul-stack c = search needs
-
-slice-write-stack : tie.Need-slice-write-stack
-slice-write-stack c = search needs
-
-sub-new-top : tie.Need-sub-new-top
-sub-new-top c = search needs
-
-same-length : tie.Need-same-length
-same-length c = search needs
-
 returns : tie.Need-returns
 returns c =
     let st = c .before .before in
@@ -35,4 +17,4 @@ returns c =
 pub push-spec : {M : Type 1} → statement M
 push-spec =
     tie.close
-    (tie.spec cast-stack sub-stack mul-stack slice-write-stack sub-new-top same-length returns)
+    (tie.spec (λ c. search needs) (λ c. search needs) (λ c. search needs) (λ c. search needs) (λ c. search needs) (λ c. search needs) returns)

@@ -8,23 +8,21 @@ use Prim.Native.Nat.{ℕ, _*_, _+_, _-_, _≤_}
 use native.Mathlib.Omega.{arith}
 use lib.ListN.{drop, length}
 use borrow.Author.Needs.{needs}
+use Rattle.grid.specs.Window.{sides}
 use Rattle.lists.specs.Lists.{keep, upto}
+use Rattle.rules.specs.Ground.{isOutlet}
 use Rattle.walk.proofs.Begins.{Begun, begun-next}
 use Rattle.walk.proofs.Outlets.{outlets-all, outlets-few, outlets-none, outletsFrom}
 use Rattle.walk.specs.Climb.{outletEntry}
-use Rattle.walk.specs.Walk.{marked}
 use Rattle.walk.proofs.push_outlets.Statement.{statement}
 use Rattle.walk.proofs.push_outlets.Tie as tie
 
 abbrev Inv-loop : tie.InvT-loop
 Inv-loop marks links stack₀ c₀ top₀ stack c top =
-    (c ≤ length marks) × (length stack ≡ length stack₀) × Begun links marks stack₀ stack (length marks) c (top .0)
+    (c ≤ length marks) × (length stack ≡ length stack₀) × Begun (outletEntry sides links) marks stack₀ stack (length marks) c (top .0)
 
 abbrev μ-loop : tie.MeasureT-loop
 μ-loop marks links stack₀ c₀ top₀ stack c top = c
-
-cast-t8 : tie.Need-cast-t8 Inv-loop μ-loop
-cast-t8 c = search needs
 
 loop-holds : tie.Need-loop-holds Inv-loop μ-loop
 loop-holds c =
@@ -33,71 +31,39 @@ loop-holds c =
     let l : length (outletsFrom ms (length ms) (length ms)) ≡ 0 = ap length e in
     (omega arith, refl, record { count = omega arith; from-top = rw e })
 
-sub-c : tie.Need-sub-c Inv-loop μ-loop
-sub-c c = search needs
-
-cast-t10 : tie.Need-cast-t10 Inv-loop μ-loop
-cast-t10 c = search needs
-
-mul-t11 : tie.Need-mul-t11 Inv-loop μ-loop
-mul-t11 c = search needs
-
-add-wide : tie.Need-add-wide Inv-loop μ-loop
-add-wide c = search needs
-
-shared-slice-read-wide : tie.Need-shared-slice-read-wide Inv-loop μ-loop
-shared-slice-read-wide c = search needs
-
-wide-requires : tie.Need-wide-requires Inv-loop μ-loop
-wide-requires c κs = search needs
-
-add-t16 : tie.Need-add-t16 Inv-loop μ-loop
-add-t16 c = search needs
-
-cast-t19 : tie.Need-cast-t19 Inv-loop μ-loop
-cast-t19 c = search needs
-
-is-outlet-requires : tie.Need-is-outlet-requires Inv-loop μ-loop
-is-outlet-requires c κs = search needs
-
-one-if-requires : tie.Need-one-if-requires Inv-loop μ-loop
-one-if-requires c κs = search needs
-
 push-requires : tie.Need-push-requires Inv-loop μ-loop
 push-requires c κs =
-    let lp = c .before .before .before .before .before .before in
+    let tested = c .before .before .before .before .before .before in
+    let lp = tested .before in
     let st = lp .before .before .before .before in
     let ms = st .args .marks .now in
-    let t = c .before .before .before .before .before .loop-test .taken in
+    let t = tested .loop-test .taken in
     let low = lp .loop .inv .0 in let size = lp .loop .inv .1 in let count = lp .loop .inv .2 .count in let room = st .pre in
     let few = outlets-few ms (length ms) (lp .loop .c) in
     (omega arith, omega arith, c .one-if .ensures .1)
 
-loop-less : tie.Need-loop-less Inv-loop μ-loop
-loop-less c = search needs
-
 loop-again : tie.Need-loop-again Inv-loop μ-loop
 loop-again c =
-    let lp = c .before .before .before .before .before .before .before .before .before in
+    let outletting = c .before .before .before .before in
+    let reading = outletting .before .before .before in
+    let tested = reading .before .before in
+    let lp = tested .before in
     let a = lp .before .before .before .before .args in
     let ms = a .marks .now in
     let i = lp .loop .inv in
     let p = c .before .before .push in
     let bit = c .before .before .before .one-if in
-    let outlet = c .before .before .before .before .is-outlet in
-    let links = c .before .before .before .before .before .before .wide in
-    let t = c .before .before .before .before .before .before .before .before .loop-test .taken in
+    let outlet = outletting .is-outlet in
+    let links = reading .wide in
+    let t = tested .loop-test .taken in
     let low = i .0 in (
       omega arith,
       p .kept .0 ∙ i .1,
-      begun-next (a .links .now) ms (a .stack .now) (lp .loop .stack) (p .last .0) (length ms) (lp .loop .c) (lp .loop .top .0)
+      begun-next (outletEntry sides (a .links .now)) ms (a .stack .now) (lp .loop .stack) (p .last .0) (length ms) (lp .loop .c) (lp .loop .top .0)
           (p .result .0) (bit .result) (65552 * (lp .loop .c - 1) + links .result) t low (i .2)
           (bit .ensures .0 ∙ ap (λ (t : Bool). cond t 1 0) (outlet .ensures))
-          (ap (λ (y : ℕ). 65552 * (lp .loop .c - 1) + y) (links .ensures .0)) (p .ensures .0) (p .ensures .1),
+          (omega (arith, links .ensures)) (p .ensures .0) (p .ensures .1),
     )
-
-same-length : tie.Need-same-length Inv-loop μ-loop
-same-length c = c .before .loop .inv .1
 
 returns : tie.Need-returns Inv-loop μ-loop
 returns c =
@@ -106,9 +72,9 @@ returns c =
     let ms = a .marks .now in
     let I = lp .loop .inv .2 in
     let z : lp .loop .c ≡ 0 = omega (arith, c .loop-test .left) in
-    let e : outletsFrom ms (length ms) (lp .loop .c) ≡ keep (marked ms) (upto (length ms)) = outlets-all ms (length ms) (lp .loop .c) z in (
+    let e : outletsFrom ms (length ms) (lp .loop .c) ≡ keep (isOutlet ms) (upto (length ms)) = outlets-all ms (length ms) (lp .loop .c) z in (
       ap (λ (l : List ℕ). lp .loop .top .0 + length l) (sym e) ∙ I .count,
-      I .from-top ∙ ap (λ (l : List ℕ). map (outletEntry (a .links .now)) l ++ drop (length ms) (a .stack .now)) e,
+      I .from-top ∙ ap (λ (l : List ℕ). map (outletEntry sides (a .links .now)) l ++ drop (length ms) (a .stack .now)) e,
     )
 
 pub push-outlets-spec : {M : Type 1} → statement M
@@ -117,20 +83,13 @@ push-outlets-spec =
     (tie.spec
     Inv-loop
     μ-loop
-    cast-t8
+    (λ c. search needs)
     loop-holds
-    sub-c
-    cast-t10
-    mul-t11
-    add-wide
-    shared-slice-read-wide
-    wide-requires
-    add-t16
-    cast-t19
-    is-outlet-requires
-    one-if-requires
+    (λ c. search needs) (λ c. search needs) (λ c. search needs) (λ c. search needs) (λ c. search needs)
+    (λ c κs. search needs) (λ c. search needs) (λ c. search needs) (λ c κs. search needs)
+    (λ c κs. search needs)
     push-requires
-    loop-less
+    (λ c. search needs)
     loop-again
-    same-length
+    (λ c. c .before .loop .inv .1)
     returns)

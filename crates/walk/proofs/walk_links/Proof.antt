@@ -9,12 +9,6 @@ use Rattle.walk.proofs.Begins.{ready, walked-from}
 use Rattle.walk.proofs.walk_links.Statement.{statement}
 use Rattle.walk.proofs.walk_links.Tie as tie
 
-note-heights-requires : tie.Need-note-heights-requires
-note-heights-requires c κs = search needs
-
-push-outlets-requires : tie.Need-push-outlets-requires
-push-outlets-requires c κs = search needs
-
 climb-requires : tie.Need-climb-requires
 climb-requires c κs =
     let pushing = c .before .before .before .before .before .before .before in
@@ -41,21 +35,6 @@ climb-requires c κs =
       },
     )
 
-same-length : tie.Need-same-length
-same-length c = search needs
-
-same-length-2 : tie.Need-same-length-2
-same-length-2 c = search needs
-
-same-length-3 : tie.Need-same-length-3
-same-length-3 c = search needs
-
-same-length-4 : tie.Need-same-length-4
-same-length-4 c = search needs
-
-same-length-5 : tie.Need-same-length-5
-same-length-5 c = search needs
-
 returns : tie.Need-returns
 returns c =
     let climbing = c .before .before .before .before .before .before .before .before .before .before in
@@ -74,12 +53,7 @@ pub walk-links-spec : {M : Type 1} → statement M
 walk-links-spec =
     tie.close
     (tie.spec
-    note-heights-requires
-    push-outlets-requires
+    (λ c κs. search needs) (λ c κs. search needs)
     climb-requires
-    same-length
-    same-length-2
-    same-length-3
-    same-length-4
-    same-length-5
+    (λ c. search needs) (λ c. search needs) (λ c. search needs) (λ c. search needs) (λ c. search needs)
     returns)

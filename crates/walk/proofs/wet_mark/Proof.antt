@@ -15,18 +15,6 @@ both-fail true false x y e f = rw (e, f)
 both-fail false true x y e f = rw (e, f)
 both-fail false false x y e f = rw (e, f)
 
-one-if-requires : tie.Need-one-if-requires
-one-if-requires c κs = search needs
-
-one-if-requires-2 : tie.Need-one-if-requires-2
-one-if-requires-2 c κs = search needs
-
-add-one-if : tie.Need-add-one-if
-add-one-if c = search needs
-
-one-if-requires-3 : tie.Need-one-if-requires-3
-one-if-requires-3 c κs = search needs
-
 returns : tie.Need-returns
 returns c =
     let a = c .before .before .before .before .before .args in
@@ -38,4 +26,4 @@ returns c =
 
 pub wet-mark-spec : {M : Type 1} → statement M
 wet-mark-spec =
-    tie.close (tie.spec one-if-requires one-if-requires-2 add-one-if one-if-requires-3 returns)
+    tie.close (tie.spec (λ c κs. search needs) (λ c κs. search needs) (λ c. search needs) (λ c κs. search needs) returns)

@@ -1,151 +1,107 @@
-//! Mutants that judge wrongly: a refusal too many, too few, too late or in the wrong place.
+//! Mutants that judge wrongly. The table of refusals is a list of tests here: a mutant has another
+//! test in the place of one, or two of them the other way round.
 
-use second::ground::{judge_heights, judge_marks, judge_outlets, Cell, Ground, Size};
+use second::ground::{judge_heights, judge_marks, judge_outlets, Cell, Ground};
 use second::network_record;
-use second::record::{distances, distances_named, judge_frame, length, lists, size_named};
+use second::record::{distances, distances_named, length, lists, size_named, TRAILER};
 use second::refusal::Refusal;
 
-use super::{judge, judge_room, mutant, Mutant};
+use super::Mutant;
+use crate::library::Library;
 
-pub const MUTANTS: &[Mutant] = &[
-    mutant("refuses every tile", |_, _| Refusal::Length.answer()),
-    mutant(
-        "accepts every height, every mark and no outlet",
-        with!(judge: |record, room| frame_then(record, room, |ground| Ok(mended(ground)))),
-    ),
-    mutant(
-        "heights judged after marks",
-        with!(judge: |record, room| frame_then(record, room, marks_first)),
-    ),
-    mutant(
-        "heights and marks judged cell by cell",
-        with!(judge: |record, room| frame_then(record, room, cell_by_cell)),
-    ),
-    mutant(
-        "no outlet judged before marks",
-        with!(judge: |record, room| frame_then(record, room, outlets_before_marks)),
-    ),
-    mutant(
-        "the last bad cell is the place",
-        with!(judge: |record, room| frame_then(record, room, last_bad_cell)),
-    ),
-    mutant(
-        "columns searched before rows",
-        with!(judge: |record, room| frame_then(record, room, columns_first)),
-    ),
-    mutant("the place is always 0", without_place),
-    mutant(
-        "height 8,000,001 accepted",
-        with!(judge: |record, room| heights_within(record, room, -8_000_000, 8_000_001)),
-    ),
-    mutant(
-        "height -8,000,001 accepted",
-        with!(judge: |record, room| heights_within(record, room, -8_000_001, 8_000_000)),
-    ),
-    mutant(
-        "height 8,000,000 refused",
-        with!(judge: |record, room| heights_within(record, room, -8_000_000, 7_999_999)),
-    ),
-    mutant(
-        "height -8,000,000 refused",
-        with!(judge: |record, room| heights_within(record, room, -7_999_999, 8_000_000)),
-    ),
-    mutant(
-        "the lowest 32-bit number negated",
-        with!(judge: |record, room| heights_by(record, room, |height| {
-            height.wrapping_abs() <= 8_000_000
-        })),
-    ),
-    mutant(
-        "any mark above 0 is an outlet",
-        with!(judge: |record, room| frame_then(record, room, marks_above_0)),
-    ),
-    mutant(
-        "width 65 accepted",
-        with!(judge: |record, room| frame_of_up_to(record, room, 65, 64)),
-    ),
-    mutant(
-        "height 65 accepted",
-        with!(judge: |record, room| frame_of_up_to(record, room, 64, 65)),
-    ),
-    mutant(
-        "width 64 refused",
-        with!(judge: |record, room| frame_of_up_to(record, room, 63, 64)),
-    ),
-    mutant(
-        "height 64 refused",
-        with!(judge: |record, room| frame_of_up_to(record, room, 64, 63)),
-    ),
-    mutant(
-        "4,096 cells refused",
-        with!(judge: |record, room| frame_then(record, room, under_4096_cells)),
-    ),
-    mutant(
-        "distances not judged",
-        with!(judge: |record, room| distances_wrong_by(record, room, |_, _| false)),
-    ),
-    mutant(
-        "only the first distance judged",
-        with!(judge: |record, room| distances_wrong_by(record, room, first_differs)),
-    ),
-    mutant(
-        "only the lower half of a distance judged",
-        with!(judge: |record, room| distances_wrong_by(record, room, lower_half_differs)),
-    ),
-    mutant("a longer record accepted", |ground, network| {
-        second::call(without_lead(ground), network)
+/// A library with the table changed.
+macro_rules! table {
+    ($change:expr) => {
+        with!(judge: |record, room| judged(record, room, $change))
+    };
+}
+
+pub const MUTANTS: &[Mutant<Library>] = mutants![
+    "refuses every tile" => |_, _| Refusal::Length.answer(),
+    // each number, on both sides of its limits
+    "1: width 65 accepted" => table!(|tests| tests[SIZE] = |record, _| sides_up_to(record, 65, 64)),
+    "1: height 64 refused" => table!(|tests| tests[SIZE] = |record, _| sides_up_to(record, 64, 63)),
+    "2: a longer record accepted" => table!(|tests| tests[LENGTH] = |record, _| {
+        must(record.len() >= length(size_named(record)), Refusal::Length)
     }),
-    mutant(
-        "the length judged before the size",
-        with!(judge: length_first),
-    ),
-    mutant(
-        "a record under 16 bytes refused with 1",
-        under_16_bytes_is_1,
-    ),
-    mutant(
-        "no room judged before distances",
-        with!(judge: room_before_distances),
-    ),
-    mutant(
-        "no room judged after heights and marks",
-        with!(judge: room_last),
-    ),
-    mutant(
-        "room one short accepted",
-        with!(judge: |record, room| judge(record, room + 1)),
-    ),
-    mutant(
-        "exact room refused",
-        with!(judge: |record, room| judge(record, room.saturating_sub(1))),
-    ),
-    mutant("a longer room refused", longer_room_refused),
-];
-
-type Judged = Result<Ground, Refusal>;
-
-/// Frame and room judged rightly, the cells in another way.
-fn frame_then(record: &[u8], room: usize, cells: fn(Ground) -> Judged) -> Judged {
-    let size = judge_frame(record)?;
-    judge_room(size, room)?;
-    cells(lists(record, size))
-}
-
-fn without_place(ground: &[u8], network: &mut [u8]) -> u32 {
-    match second::call(ground, network) {
-        answer if answer < 65_536 => answer,
-        answer => answer / 65_536 * 65_536,
-    }
-}
-
-fn under_16_bytes_is_1(ground: &[u8], network: &mut [u8]) -> u32 {
-    match ground.len() {
+    "2: a record under 16 bytes refused with 1" => |ground, network| match ground.len() {
         0..=15 => Refusal::Size.answer(),
         _ => second::call(ground, network),
-    }
+    },
+    "7: only the first distance judged" => table!(|tests| tests[DISTANCES] = |record, _| {
+        distances_agree(record, |named, right| named[0] == right[0])
+    }),
+    "7: only the lower half of a distance judged" => table!(|tests| tests[DISTANCES] = |record, _| {
+        distances_agree(record, |named, right| named.map(lower_half) == right.map(lower_half))
+    }),
+    "3: a byte too little accepted" =>
+        table!(|tests| tests[ROOM] = |record, room| TABLE[ROOM](record, room + 1)),
+    "3: exact room refused" =>
+        table!(|tests| tests[ROOM] = |record, room| TABLE[ROOM](record, room.saturating_sub(1))),
+    "4: height 8,000,001 accepted" => table!(|tests| tests[HEIGHTS] = |record, _| {
+        heights_allowed(record, |height| (-8_000_000..=8_000_001).contains(&height))
+    }),
+    "4: height -8,000,000 refused" => table!(|tests| tests[HEIGHTS] = |record, _| {
+        heights_allowed(record, |height| (-7_999_999..=8_000_000).contains(&height))
+    }),
+    "4: the lowest 32-bit number negated" => table!(|tests| tests[HEIGHTS] = |record, _| {
+        heights_allowed(record, |height| height.wrapping_abs() <= 8_000_000)
+    }),
+    "5: every mark accepted" => table!(|tests| tests[MARKS] = |_, _| Ok(())),
+    "6: no outlet accepted" => table!(|tests| tests[OUTLETS] = |_, _| Ok(())),
+    // places
+    "4: the last bad height is the place" => table!(|tests| tests[HEIGHTS] = |record, _| {
+        let bad = |height: &i32| !second::ground::HEIGHTS.contains(height);
+        refused_at(ground(record).heights.iter().rposition(bad), Refusal::Height)
+    }),
+    "5: the last bad mark is the place" => table!(|tests| tests[MARKS] = |record, _| {
+        refused_at(ground(record).marks.iter().rposition(|&mark| mark > 1), Refusal::Mark)
+    }),
+    // the order
+    "2 judged before 1" => table!(|tests| tests.swap(SIZE, LENGTH)),
+    "7 judged before 2" => table!(|tests| tests.swap(LENGTH, DISTANCES)),
+    "3 judged before 7" => table!(|tests| tests.swap(DISTANCES, ROOM)),
+    "4 judged before 3" => table!(|tests| tests.swap(ROOM, HEIGHTS)),
+    "5 judged before 4" => table!(|tests| tests.swap(HEIGHTS, MARKS)),
+    "6 judged before 5" => table!(|tests| tests.swap(MARKS, OUTLETS)),
+];
+
+/// One row of the table, for a record of 16 bytes or more and the length of the room lent.
+type Test = fn(&[u8], usize) -> Result<(), Refusal>;
+
+/// The rows in their order, which is that of their names.
+const TABLE: [Test; 7] = [
+    |record, _| size_named(record).judge(),
+    |record, _| must(record.len() == length(size_named(record)), Refusal::Length),
+    |record, _| distances_agree(record, |named, right| named == right),
+    |record, room| {
+        must(
+            room >= network_record::length(size_named(record)),
+            Refusal::Room,
+        )
+    },
+    |record, _| judge_heights(&ground(record).heights),
+    |record, _| judge_marks(&ground(record).marks),
+    |record, _| judge_outlets(&ground(record).marks),
+];
+const SIZE: usize = 0;
+const LENGTH: usize = 1;
+const DISTANCES: usize = 2;
+const ROOM: usize = 3;
+const HEIGHTS: usize = 4;
+const MARKS: usize = 5;
+const OUTLETS: usize = 6;
+
+/// A record judged by the changed table.
+pub fn judged(record: &[u8], room: usize, change: fn(&mut [Test; 7])) -> Result<Ground, Refusal> {
+    must(record.len() >= TRAILER, Refusal::Length)?;
+    let mut tests = TABLE;
+    change(&mut tests);
+    tests.iter().try_for_each(|test| test(record, room))?;
+    Ok(mended(ground(record)))
 }
 
-/// A ground without faults in place of one with faults.
+/// What a changed table let through is made sound, so that the stages can work on it.
 fn mended(mut ground: Ground) -> Ground {
     for height in &mut ground.heights {
         *height = (*height).clamp(-8_000_000, 8_000_000);
@@ -159,173 +115,35 @@ fn mended(mut ground: Ground) -> Ground {
     ground
 }
 
-fn under_4096_cells(ground: Ground) -> Judged {
-    match ground.size.cells() {
-        4_096 => Err(Refusal::Size),
-        _ => ground.judge_cells().map(|()| ground),
-    }
+fn ground(record: &[u8]) -> Ground {
+    lists(record, size_named(record))
 }
 
-fn marks_first(ground: Ground) -> Judged {
-    judge_marks(&ground.marks)?;
-    judge_heights(&ground.heights)?;
-    judge_outlets(&ground.marks)?;
-    Ok(ground)
+fn must(holds: bool, why: Refusal) -> Result<(), Refusal> {
+    holds.then_some(()).ok_or(why)
 }
 
-fn cell_by_cell(ground: Ground) -> Judged {
-    for cell in ground.cells() {
-        judge_heights(&ground.heights[..=cell.index()])?;
-        judge_marks(&ground.marks[..=cell.index()])?;
-    }
-    judge_outlets(&ground.marks)?;
-    Ok(ground)
+fn refused_at(cell: Option<usize>, why: fn(Cell) -> Refusal) -> Result<(), Refusal> {
+    cell.map_or(Ok(()), |cell| Err(why(Cell::at(cell))))
 }
 
-fn outlets_before_marks(ground: Ground) -> Judged {
-    judge_heights(&ground.heights)?;
-    judge_outlets(&ground.marks)?;
-    judge_marks(&ground.marks)?;
-    Ok(ground)
-}
-
-fn last_bad_cell(ground: Ground) -> Judged {
-    let bad_height = |h: &i32| !second::ground::HEIGHTS.contains(h);
-    if let Some(cell) = ground.heights.iter().rposition(bad_height) {
-        return Err(Refusal::Height(Cell::at(cell)));
-    }
-    if let Some(cell) = ground.marks.iter().rposition(|&mark| mark > 1) {
-        return Err(Refusal::Mark(Cell::at(cell)));
-    }
-    judge_outlets(&ground.marks)?;
-    Ok(ground)
-}
-
-fn columns_first(ground: Ground) -> Judged {
-    let bad = |cell: &Cell| !second::ground::HEIGHTS.contains(&ground.height(*cell));
-    let first = ground
-        .cells()
-        .filter(bad)
-        .min_by_key(|cell| (cell.index() % ground.size.width, cell.0));
-    if let Some(cell) = first {
-        return Err(Refusal::Height(cell));
-    }
-    ground.judge_cells()?;
-    Ok(ground)
-}
-
-/// Heights judged by another range.
-fn heights_within(record: &[u8], room: usize, least: i32, greatest: i32) -> Judged {
-    heights_by(record, room, |height| (least..=greatest).contains(&height))
-}
-
-/// Heights judged by another test. A height that no tile has is mended if the test lets it through.
-fn heights_by(record: &[u8], room: usize, allowed: impl Fn(i32) -> bool) -> Judged {
-    let size = judge_frame(record)?;
-    judge_room(size, room)?;
-    let ground = lists(record, size);
-    if let Some(cell) = ground.heights.iter().position(|&height| !allowed(height)) {
-        return Err(Refusal::Height(Cell::at(cell)));
-    }
-    judge_marks(&ground.marks)?;
-    judge_outlets(&ground.marks)?;
-    Ok(mended(ground))
-}
-
-fn marks_above_0(ground: Ground) -> Judged {
-    judge_heights(&ground.heights)?;
-    if ground.marks.iter().all(|&mark| mark == 0) {
-        return Err(Refusal::NoOutlet);
-    }
-    Ok(mended(ground))
-}
-
-/// The right frame but for the greatest width and height.
-fn frame_of_up_to(record: &[u8], room: usize, width: usize, height: usize) -> Judged {
-    if record.len() < 16 {
-        return Err(Refusal::Length);
-    }
+fn sides_up_to(record: &[u8], width: usize, height: usize) -> Result<(), Refusal> {
     let size = size_named(record);
-    if !(1..=width).contains(&size.width) || !(1..=height).contains(&size.height) {
-        return Err(Refusal::Size);
-    }
-    judge_length_and_distances(record, size)?;
-    judge_room(size, room)?;
-    let ground = lists(record, size);
-    ground.judge_cells()?;
-    Ok(ground)
+    let allowed = (1..=width).contains(&size.width) && (1..=height).contains(&size.height);
+    must(allowed, Refusal::Size)
 }
 
-fn judge_length_and_distances(record: &[u8], size: Size) -> Result<(), Refusal> {
-    if record.len() != length(size) {
-        return Err(Refusal::Length);
-    }
-    if distances_named(record) != distances(size) {
-        return Err(Refusal::Distance);
-    }
-    Ok(())
+fn distances_agree(record: &[u8], agree: fn([u32; 3], [u32; 3]) -> bool) -> Result<(), Refusal> {
+    let right = distances(size_named(record));
+    must(agree(distances_named(record), right), Refusal::Distance)
 }
 
-/// Distances judged by another test.
-fn distances_wrong_by(record: &[u8], room: usize, wrong: fn([u32; 3], [u32; 3]) -> bool) -> Judged {
-    match judge(record, room) {
-        Err(Refusal::Distance) => {
-            let size = size_named(record);
-            if wrong(distances_named(record), distances(size)) {
-                return Err(Refusal::Distance);
-            }
-            judge_room(size, room)?;
-            let ground = lists(record, size);
-            ground.judge_cells()?;
-            Ok(ground)
-        }
-        judged => judged,
-    }
+fn lower_half(distance: u32) -> u16 {
+    distance as u16
 }
 
-fn first_differs(named: [u32; 3], right: [u32; 3]) -> bool {
-    named[0] != right[0]
-}
-
-fn lower_half_differs(named: [u32; 3], right: [u32; 3]) -> bool {
-    (0..3).any(|which| named[which] as u16 != right[which] as u16)
-}
-
-/// The record at the end of a longer one, if there is one.
-fn without_lead(record: &[u8]) -> &[u8] {
-    if record.len() < 16 || size_named(record).judge().is_err() {
-        return record;
-    }
-    let lead = record.len().saturating_sub(length(size_named(record)));
-    &record[lead..]
-}
-
-fn length_first(record: &[u8], room: usize) -> Judged {
-    if record.len() >= 16 {
-        let size = size_named(record);
-        if record.len() != length(size) {
-            return Err(Refusal::Length);
-        }
-    }
-    judge(record, room)
-}
-
-fn room_before_distances(record: &[u8], room: usize) -> Judged {
-    if judge_frame(record) == Err(Refusal::Distance) {
-        judge_room(size_named(record), room)?;
-    }
-    judge(record, room)
-}
-
-fn room_last(record: &[u8], room: usize) -> Judged {
-    let ground = judge(record, usize::MAX)?;
-    judge_room(ground.size, room)?;
-    Ok(ground)
-}
-
-fn longer_room_refused(ground: &[u8], network: &mut [u8]) -> u32 {
-    match second::record::check(ground) {
-        Ok(size) if network.len() > network_record::length(size) => Refusal::Room.answer(),
-        _ => second::call(ground, network),
-    }
+fn heights_allowed(record: &[u8], allowed: fn(i32) -> bool) -> Result<(), Refusal> {
+    let heights = ground(record).heights;
+    let bad = heights.iter().position(|&height| !allowed(height));
+    refused_at(bad, Refusal::Height)
 }

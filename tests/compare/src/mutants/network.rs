@@ -1,235 +1,102 @@
 //! Mutants whose network is wrong: one fault in one of rules 1 to 10.
 
 use std::cmp::Reverse;
-use std::collections::{HashSet, VecDeque};
+use std::collections::HashSet;
 
 use second::basins::{self, Basins};
 use second::carving::{self, Outflow};
-use second::first_receivers;
+use second::first_receivers::first_receivers;
 use second::flow;
 use second::ground::{Basin, Cell, Ground};
 use second::passes::{self, pair, Crossing};
 
-use super::{mutant, Mutant};
+use super::Mutant;
+use crate::library::Library;
 
-pub const MUTANTS: &[Mutant] = &[
-    mutant(
-        "rule 1: the greatest number of equally low ones",
+pub const MUTANTS: &[Mutant<Library>] = mutants![
+    "rule 1: the greatest number of equally low ones" =>
         with!(first_receivers: greatest_of_equally_low),
+    "rule 1: an equally high neighbour receives too" => with!(first_receivers: equal_receives_too),
+    "rule 1: an outlet with a lower neighbour has a receiver" =>
+        with!(first_receivers: |ground| first_receivers(&first_outlet_only(ground))),
+    "rule 1: heights compared as unsigned numbers" => with!(first_receivers: unsigned_heights),
+    "rule 1: the last cell of the row above is a neighbour" => with!(first_receivers: wrapped_rows),
+    "rule 2: basins numbered as their cells are met" => with!(basins: numbered_as_met),
+    "rule 3: the height of the lesser cell" => with!(crossings: height_of_lesser),
+    "rule 3: the greater lesser cell first" => with!(passes: |all, basins| {
+        least_by(all, basins, |one| (one.height, Reverse(one.lesser), one.greater))
+    }),
+    "rule 3: the greater greater cell first" => with!(passes: |all, basins| {
+        least_by(all, basins, |one| (one.height, one.lesser, Reverse(one.greater)))
+    }),
+    "rule 3: the highest crossing is the pass" => with!(passes: highest),
+    "rule 4: outlet basins are not joined" => with!(
+        chosen_passes: |passes, basins, ground| {
+            passes::chosen_passes(passes, basins, &first_outlet_only(ground))
+        },
+        outflows: |chosen, basins, ground| {
+            carving::outflows(chosen, basins, &first_outlet_only(ground))
+        },
     ),
-    mutant(
-        "rule 1: the first lower neighbour, not the lowest",
-        with!(first_receivers: first_lower),
+    "rule 4: the highest passes first" => with!(chosen_passes: highest_first),
+    "rule 5: each basin over its own lowest pass" => with!(
+        chosen_passes: |passes, _, _| passes.to_vec(),
+        outflows: own_lowest,
+        drainage: drainage_on_rings,
     ),
-    mutant(
-        "rule 1: an equally high neighbour receives too",
-        with!(first_receivers: equal_receives_too),
+    "rule 6: nothing reversed, only the near cell set" => with!(carve: |first, outflows| {
+        near_set(carving::carve(first, &[]), outflows, |one| one.far)
+    }),
+    "rule 6: near cell not joined to far cell" => with!(carve: |first, outflows| {
+        near_set(carving::carve(first, outflows), outflows, |one| one.near)
+    }),
+    "rule 6: each cell its own receiver" =>
+        with!(carve: |first, _| (0..first.len()).map(Cell::at).collect()),
+    "rule 7: the receiver's height in place of its level" => with!(levels: receivers_height),
+    "rule 7: levels cut to 16 bits" => with!(levels: |receivers, order, ground| {
+        let levels = flow::levels(receivers, order, ground).into_iter();
+        levels.map(|level| i32::from(level as i16)).collect()
+    }),
+    "rules 7 and 9: zeros for levels and drainage" => with!(
+        levels: |receivers, _, _| vec![0; receivers.len()],
+        drainage: |receivers, _| vec![0; receivers.len()],
     ),
-    mutant(
-        "rule 1: an outlet with a lower neighbour has a receiver",
-        with!(first_receivers: outlets_receive_too),
-    ),
-    mutant(
-        "rule 1: heights compared as unsigned numbers",
-        with!(first_receivers: unsigned_heights),
-    ),
-    mutant(
-        "rule 1: the last cell of the row above is a neighbour",
-        with!(first_receivers: wrapped_rows),
-    ),
-    mutant(
-        "rule 2: basins numbered as their cells are met",
-        with!(basins: numbered_as_met),
-    ),
-    mutant(
-        "rule 3: the greater cell compared before the lesser",
-        with!(passes: |all, basins| {
-            least_by(all, basins, |one| (one.height, one.greater, one.lesser))
-        }),
-    ),
-    mutant(
-        "rule 3: the greater lesser cell first",
-        with!(passes: |all, basins| {
-            least_by(all, basins, |one| (one.height, flip(one.lesser), one.greater))
-        }),
-    ),
-    mutant(
-        "rule 3: the greater greater cell first",
-        with!(passes: |all, basins| {
-            least_by(all, basins, |one| (one.height, one.lesser, flip(one.greater)))
-        }),
-    ),
-    mutant(
-        "rule 3: the height of the lesser cell",
-        with!(crossings: |ground, basins| with_height(ground, basins, |lesser, _| lesser)),
-    ),
-    mutant(
-        "rule 3: the height of the greater cell",
-        with!(crossings: |ground, basins| with_height(ground, basins, |_, greater| greater)),
-    ),
-    mutant(
-        "rule 3: the lesser of the two heights",
-        with!(crossings: |ground, basins| with_height(ground, basins, i32::min)),
-    ),
-    mutant(
-        "rule 3: the highest crossing is the pass",
-        with!(passes: highest),
-    ),
-    mutant(
-        "rule 4: outlet basins are not joined",
-        with!(chosen_passes: first_outlet_chooses, outflows: first_outlet_reaches),
-    ),
-    mutant(
-        "rule 4: the highest passes first",
-        with!(chosen_passes: highest_first),
-    ),
-    mutant(
-        "rule 5: each basin over its own lowest pass",
-        with!(chosen_passes: take_all, outflows: own_lowest, drainage: drainage_on_rings),
-    ),
-    mutant(
-        "rule 6: nothing reversed, only the near cell set",
-        with!(carve: only_near_cell),
-    ),
-    mutant(
-        "rule 6: near cell not joined to far cell",
-        with!(carve: never_joined),
-    ),
-    mutant(
-        "rule 6: each cell its own receiver",
-        with!(carve: own_receiver),
-    ),
-    mutant(
-        "rule 7: a level is the height alone",
-        with!(levels: |_, _, ground| ground.heights.clone()),
-    ),
-    mutant(
-        "rule 7: the receiver's height in place of its level",
-        with!(levels: receivers_height),
-    ),
-    mutant(
-        "rule 7: levels cut to 16 bits",
-        with!(levels: |receivers, order, ground| {
-            each(flow::levels(receivers, order, ground), |level| i32::from(level as i16))
-        }),
-    ),
-    mutant(
-        "rule 7: zero levels",
-        with!(levels: |receivers, _, _| vec![0; receivers.len()]),
-    ),
-    mutant(
-        "rules 7 and 9: zeros for levels and drainage",
-        with!(
-            levels: |receivers, _, _| vec![0; receivers.len()],
-            drainage: |receivers, _| vec![0; receivers.len()],
-        ),
-    ),
-    mutant(
-        "rule 8: cells that receive to one by descending number",
-        with!(order: |receivers| ordered(receivers, Fault::DescendingCells)),
-    ),
-    mutant(
-        "rule 8: outlets by descending number",
-        with!(order: |receivers| ordered(receivers, Fault::DescendingOutlets)),
-    ),
-    mutant(
-        "rule 8: breadth first",
-        with!(order: |receivers| ordered(receivers, Fault::BreadthFirst)),
-    ),
-    mutant(
-        "rule 9: without the cell's own water",
-        with!(drainage: without_own_water),
-    ),
-    mutant(
-        "rule 9: cells counted in place of water",
-        with!(drainage: cells_counted),
-    ),
-    mutant(
-        "rule 9: sums cut to 16 bits",
-        with!(drainage: |receivers, ground| {
-            each(flow::drainage(receivers, ground), |sum| sum & 0xFFFF)
-        }),
-    ),
-    mutant(
-        "rule 9: the outlets' own water left out",
-        with!(drainage: without_outlets_water),
-    ),
-    mutant(
-        "rule 10: wet where the level is above the height",
-        with!(wet: level_above_height),
-    ),
-    mutant("rule 10: outlets are wet too", with!(wet: outlets_wet_too)),
-    mutant(
-        "rule 10: wet and dry exchanged",
-        with!(wet: |receivers, levels, ground| {
-            each(flow::wet(receivers, levels, ground), |wet| 1 - wet)
-        }),
-    ),
+    "rule 8: greater numbers first" => with!(order: greater_first),
+    "rule 8: breadth first" => with!(order: breadth_first),
+    "rule 9: sums cut to 16 bits" => with!(drainage: |receivers, ground| {
+        let drainage = flow::drainage(receivers, ground).into_iter();
+        drainage.map(|sum| sum & 0xFFFF).collect()
+    }),
+    "rule 9: the outlets' own water left out" => with!(drainage: without_outlets_water),
+    "rule 10: wet where the level is above the height" => with!(wet: |_, levels, ground| {
+        let both = levels.iter().zip(&ground.heights);
+        both.map(|(level, height)| u8::from(level > height)).collect()
+    }),
+    "rule 10: outlets are wet too" => with!(wet: |receivers, levels, _| {
+        let both = levels.iter().zip(receivers);
+        both.map(|(&level, receiver)| u8::from(level == levels[receiver.index()])).collect()
+    }),
 ];
 
-fn each<T>(list: Vec<T>, change: impl Fn(T) -> T) -> Vec<T> {
-    list.into_iter().map(change).collect()
-}
-
-/// A number that falls as the cell's number rises.
-fn flip(cell: Cell) -> Cell {
-    Cell(u16::MAX - cell.0)
-}
-
-fn lower_neighbours(ground: &Ground, cell: Cell) -> Vec<Cell> {
-    ground
-        .size
-        .neighbours(cell)
-        .filter(|&neighbour| ground.height(neighbour) < ground.height(cell))
-        .collect()
-}
-
 fn greatest_of_equally_low(ground: &Ground) -> Vec<Option<Cell>> {
-    let best = |cell| {
-        let lower = lower_neighbours(ground, cell).into_iter();
-        lower.min_by_key(|&neighbour| (ground.height(neighbour), flip(neighbour)))
+    let as_low = |cell, first| {
+        let equal = |other: &Cell| ground.height(*other) == ground.height(first);
+        ground.size.neighbours(cell).filter(equal).last()
     };
-    ground
-        .cells()
-        .map(|cell| best(cell).filter(|_| !ground.is_outlet(cell)))
-        .collect()
-}
-
-fn first_lower(ground: &Ground) -> Vec<Option<Cell>> {
-    let first = |cell| lower_neighbours(ground, cell).first().copied();
-    ground
-        .cells()
-        .map(|cell| first(cell).filter(|_| !ground.is_outlet(cell)))
-        .collect()
+    let right = ground.cells().zip(first_receivers(ground));
+    right.map(|(cell, first)| as_low(cell, first?)).collect()
 }
 
 /// An equally high neighbour only counts with a lesser number, or the way would never end.
 fn equal_receives_too(ground: &Ground) -> Vec<Option<Cell>> {
-    let right = first_receivers::first_receivers(ground);
-    let equal = |cell| {
-        let mut before = ground
-            .size
-            .neighbours(cell)
-            .take_while(|&other| other < cell);
-        before.find(|&other| ground.height(other) == ground.height(cell))
-    };
-    ground
-        .cells()
-        .map(|cell| match ground.is_outlet(cell) {
-            true => None,
-            false => right[cell.index()].or_else(|| equal(cell)),
-        })
-        .collect()
-}
-
-fn outlets_receive_too(ground: &Ground) -> Vec<Option<Cell>> {
-    let mut without_marks = ground.clone();
-    without_marks.marks.fill(0);
-    // The lowest cell stays an outlet, so that there is one to reach.
-    let outlets = ground.cells().filter(|&cell| ground.is_outlet(cell));
-    let lowest = outlets.min_by_key(|&cell| ground.height(cell));
-    without_marks.marks[lowest.map_or(0, Cell::index)] = 1;
-    first_receivers::first_receivers(&without_marks)
+    let mut found = first_receivers(ground);
+    for (cell, first) in ground.cells().zip(&mut found) {
+        let equal = |other: &Cell| *other < cell && ground.height(*other) == ground.height(cell);
+        if first.is_none() && !ground.is_outlet(cell) {
+            *first = ground.size.neighbours(cell).find(equal);
+        }
+    }
+    found
 }
 
 /// With its first bit the other way, a number compares as if it had no sign.
@@ -238,12 +105,12 @@ fn unsigned_heights(ground: &Ground) -> Vec<Option<Cell>> {
     for height in &mut unsigned.heights {
         *height ^= i32::MIN;
     }
-    first_receivers::first_receivers(&unsigned)
+    first_receivers(&unsigned)
 }
 
 /// In the first column the number before is taken for a neighbour, though it is in another row.
 fn wrapped_rows(ground: &Ground) -> Vec<Option<Cell>> {
-    let mut found = first_receivers::first_receivers(ground);
+    let mut found = first_receivers(ground);
     for row in 1..ground.size.height {
         let cell = Cell::at(row * ground.size.width);
         let before = Cell(cell.0 - 1);
@@ -263,23 +130,24 @@ fn numbered_as_met(first_receivers: &[Option<Cell>]) -> Basins {
             met.push(basin);
         }
     }
-    let new_number = |old: Basin| Basin::at(met.iter().position(|&basin| basin == old).unwrap());
+    let number = |old: &Basin| Basin::at(met.iter().position(|basin| basin == old).unwrap());
     Basins {
-        of_cells: right.of_cells.iter().copied().map(new_number).collect(),
-        singular_cells: met
-            .iter()
-            .map(|&basin| right.singular_cell(basin))
-            .collect(),
+        of_cells: right.of_cells.iter().map(number).collect(),
+        singular_cells: met.iter().map(|&old| right.singular_cell(old)).collect(),
     }
 }
 
+fn height_of_lesser(ground: &Ground, basins: &Basins) -> Vec<Crossing> {
+    let mut crossings = passes::crossings(ground, basins);
+    for crossing in &mut crossings {
+        crossing.height = ground.height(crossing.lesser);
+    }
+    crossings
+}
+
 /// Passes, with crossings compared by another key.
-fn least_by<K: Ord>(
-    crossings: &[Crossing],
-    basins: &Basins,
-    key: fn(&Crossing) -> K,
-) -> Vec<Crossing> {
-    let mut sorted = crossings.to_vec();
+fn least_by<K: Ord>(all: &[Crossing], basins: &Basins, key: fn(&Crossing) -> K) -> Vec<Crossing> {
+    let mut sorted = all.to_vec();
     sorted.sort_by_key(key);
     let mut kept = HashSet::new();
     sorted.retain(|&crossing| {
@@ -289,21 +157,15 @@ fn least_by<K: Ord>(
     sorted
 }
 
-fn with_height(ground: &Ground, basins: &Basins, height: fn(i32, i32) -> i32) -> Vec<Crossing> {
-    let mut crossings = passes::crossings(ground, basins);
-    for crossing in &mut crossings {
-        let (lesser, greater) = (crossing.lesser, crossing.greater);
-        crossing.height = height(ground.height(lesser), ground.height(greater));
-    }
-    crossings
-}
-
 fn highest(crossings: &[Crossing], basins: &Basins) -> Vec<Crossing> {
-    let mut highest = least_by(crossings, basins, |one| {
-        (Reverse(one.height), one.lesser, one.greater)
-    });
+    let mut highest = least_by(crossings, basins, |&one| Reverse(one));
     highest.sort();
     highest
+}
+
+fn highest_first(passes: &[Crossing], basins: &Basins, ground: &Ground) -> Vec<Crossing> {
+    let descending: Vec<Crossing> = passes.iter().rev().copied().collect();
+    passes::chosen_passes(&descending, basins, ground)
 }
 
 /// The tile as if it had its first outlet only.
@@ -313,27 +175,6 @@ fn first_outlet_only(ground: &Ground) -> Ground {
     let first = ground.cells().find(|&cell| ground.is_outlet(cell));
     only.marks[first.map_or(0, Cell::index)] = 1;
     only
-}
-
-fn first_outlet_chooses(passes: &[Crossing], basins: &Basins, ground: &Ground) -> Vec<Crossing> {
-    passes::chosen_passes(passes, basins, &first_outlet_only(ground))
-}
-
-fn first_outlet_reaches(
-    chosen: &[Crossing],
-    basins: &Basins,
-    ground: &Ground,
-) -> Vec<Option<Outflow>> {
-    carving::outflows(chosen, basins, &first_outlet_only(ground))
-}
-
-fn highest_first(passes: &[Crossing], basins: &Basins, ground: &Ground) -> Vec<Crossing> {
-    let descending: Vec<Crossing> = passes.iter().rev().copied().collect();
-    passes::chosen_passes(&descending, basins, ground)
-}
-
-fn take_all(passes: &[Crossing], _: &Basins, _: &Ground) -> Vec<Crossing> {
-    passes.to_vec()
 }
 
 fn own_lowest(passes: &[Crossing], basins: &Basins, ground: &Ground) -> Vec<Option<Outflow>> {
@@ -366,86 +207,44 @@ fn drainage_on_rings(receivers: &[Cell], ground: &Ground) -> Vec<u32> {
     drainage
 }
 
-fn only_near_cell(first_receivers: &[Option<Cell>], outflows: &[Option<Outflow>]) -> Vec<Cell> {
-    let mut receivers = carving::carve(first_receivers, &[]);
+/// Receivers with those of the near cells set to one cell of their outflow.
+fn near_set(
+    mut receivers: Vec<Cell>,
+    outflows: &[Option<Outflow>],
+    receiver: fn(&Outflow) -> Cell,
+) -> Vec<Cell> {
     for outflow in outflows.iter().flatten() {
-        receivers[outflow.near.index()] = outflow.far;
+        receivers[outflow.near.index()] = receiver(outflow);
     }
     receivers
-}
-
-fn never_joined(first_receivers: &[Option<Cell>], outflows: &[Option<Outflow>]) -> Vec<Cell> {
-    let mut receivers = carving::carve(first_receivers, outflows);
-    for outflow in outflows.iter().flatten() {
-        receivers[outflow.near.index()] = outflow.near;
-    }
-    receivers
-}
-
-fn own_receiver(first_receivers: &[Option<Cell>], _: &[Option<Outflow>]) -> Vec<Cell> {
-    (0..first_receivers.len()).map(Cell::at).collect()
 }
 
 fn receivers_height(receivers: &[Cell], _: &[Cell], ground: &Ground) -> Vec<i32> {
-    ground
-        .cells()
-        .map(|cell| {
-            ground
-                .height(cell)
-                .max(ground.height(receivers[cell.index()]))
-        })
-        .collect()
+    let height = |cell| {
+        ground
+            .height(cell)
+            .max(ground.height(receivers[cell.index()]))
+    };
+    ground.cells().map(height).collect()
 }
 
-/// What can be wrong with an order.
-#[derive(PartialEq, Eq)]
-enum Fault {
-    DescendingCells,
-    DescendingOutlets,
-    BreadthFirst,
+/// The right order of the tile with its numbers the other way round.
+fn greater_first(receivers: &[Cell]) -> Vec<Cell> {
+    let flip = |cell: &Cell| Cell::at(receivers.len() - 1 - cell.index());
+    let flipped: Vec<Cell> = receivers.iter().rev().map(flip).collect();
+    flow::order(&flipped).iter().map(flip).collect()
 }
 
-/// Rule 8's order with one fault.
-fn ordered(receivers: &[Cell], fault: Fault) -> Vec<Cell> {
-    let cells = || (0..receivers.len()).map(Cell::at);
-    let mut givers: Vec<Vec<Cell>> = vec![Vec::new(); receivers.len()];
-    for cell in cells().filter(|cell| receivers[cell.index()] != *cell) {
-        givers[receivers[cell.index()].index()].push(cell);
+/// All outlets, then all cells one step above them, and so on.
+fn breadth_first(receivers: &[Cell]) -> Vec<Cell> {
+    let mut order = flow::order(receivers);
+    let mut steps = vec![0; receivers.len()];
+    for cell in &order {
+        let receiver = receivers[cell.index()];
+        steps[cell.index()] = steps[receiver.index()] + usize::from(receiver != *cell);
     }
-    let mut outlets: Vec<Cell> = cells()
-        .filter(|cell| receivers[cell.index()] == *cell)
-        .collect();
-    if fault == Fault::DescendingOutlets {
-        outlets.reverse();
-    }
-    let mut order = Vec::new();
-    for outlet in outlets {
-        let mut waiting = VecDeque::from([outlet]);
-        while let Some(cell) = waiting.pop_front() {
-            order.push(cell);
-            let next = givers[cell.index()].iter().copied();
-            match fault {
-                Fault::BreadthFirst => waiting.extend(next),
-                Fault::DescendingCells => next.for_each(|cell| waiting.push_front(cell)),
-                Fault::DescendingOutlets => next.rev().for_each(|cell| waiting.push_front(cell)),
-            }
-        }
-    }
+    order.sort_by_key(|cell| steps[cell.index()]);
     order
-}
-
-fn without_own_water(receivers: &[Cell], ground: &Ground) -> Vec<u32> {
-    let mut drainage = flow::drainage(receivers, ground);
-    for cell in ground.cells() {
-        drainage[cell.index()] -= u32::from(ground.water[cell.index()]);
-    }
-    drainage
-}
-
-fn cells_counted(receivers: &[Cell], ground: &Ground) -> Vec<u32> {
-    let mut one_each = ground.clone();
-    one_each.water.fill(1);
-    flow::drainage(receivers, &one_each)
 }
 
 fn without_outlets_water(receivers: &[Cell], ground: &Ground) -> Vec<u32> {
@@ -454,17 +253,4 @@ fn without_outlets_water(receivers: &[Cell], ground: &Ground) -> Vec<u32> {
         dry_outlets.water[cell.index()] = 0;
     }
     flow::drainage(receivers, &dry_outlets)
-}
-
-fn level_above_height(_: &[Cell], levels: &[i32], ground: &Ground) -> Vec<u8> {
-    ground
-        .cells()
-        .map(|cell| u8::from(levels[cell.index()] > ground.height(cell)))
-        .collect()
-}
-
-fn outlets_wet_too(receivers: &[Cell], levels: &[i32], _: &Ground) -> Vec<u8> {
-    (0..receivers.len())
-        .map(|cell| u8::from(levels[cell] == levels[receivers[cell].index()]))
-        .collect()
 }

@@ -20,24 +20,6 @@ abbrev μ-loop : tie.MeasureT-loop
 loop-holds : tie.Need-loop-holds Inv-loop μ-loop
 loop-holds c = (search needs, refl)
 
-mul-read-u32 : tie.Need-mul-read-u32 Inv-loop μ-loop
-mul-read-u32 c = search needs
-
-read-u32-requires : tie.Need-read-u32-requires Inv-loop μ-loop
-read-u32-requires c κs = search needs
-
-lift-bits-requires : tie.Need-lift-bits-requires Inv-loop μ-loop
-lift-bits-requires c κs = search needs
-
-most-u32-requires : tie.Need-most-u32-requires Inv-loop μ-loop
-most-u32-requires c κs = search needs
-
-add-cell : tie.Need-add-cell Inv-loop μ-loop
-add-cell c = search needs
-
-loop-less : tie.Need-loop-less Inv-loop μ-loop
-loop-less c = search needs
-
 loop-again : tie.Need-loop-again Inv-loop μ-loop
 loop-again c =
     let l = c .before .before .before .before in
@@ -60,11 +42,7 @@ greatest-height-of-record-spec =
     Inv-loop
     μ-loop
     loop-holds
-    mul-read-u32
-    read-u32-requires
-    lift-bits-requires
-    most-u32-requires
-    add-cell
-    loop-less
+    (λ c. search needs) (λ c κs. search needs) (λ c κs. search needs) (λ c κs. search needs)
+    (λ c. search needs) (λ c. search needs)
     loop-again
     returns)

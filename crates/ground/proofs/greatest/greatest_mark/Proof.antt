@@ -6,7 +6,7 @@ use native.Mathlib.Omega.{arith}
 use lib.ListN.{length}
 use borrow.Author.Needs.{needs}
 use Rattle.lists.proofs.Greatest.{greatest-next}
-use Rattle.lists.proofs.Tables.{tab-is}
+use Rattle.lists.proofs.Tab.{tab-is}
 use Rattle.lists.specs.Greatest.{greatest}
 use Rattle.lists.specs.Lists.{at, tab}
 use Rattle.ground.proofs.greatest.greatest_mark.Statement.{statement}
@@ -21,18 +21,6 @@ abbrev μ-loop : tie.MeasureT-loop
 
 loop-holds : tie.Need-loop-holds Inv-loop μ-loop
 loop-holds c = (refl, search needs, refl)
-
-shared-slice-read-greater : tie.Need-shared-slice-read-greater Inv-loop μ-loop
-shared-slice-read-greater c = search needs
-
-greater-requires : tie.Need-greater-requires Inv-loop μ-loop
-greater-requires c κs = search needs
-
-add-cell : tie.Need-add-cell Inv-loop μ-loop
-add-cell c = search needs
-
-loop-less : tie.Need-loop-less Inv-loop μ-loop
-loop-less c = search needs
 
 loop-again : tie.Need-loop-again Inv-loop μ-loop
 loop-again c =
@@ -54,9 +42,6 @@ greatest-mark-spec =
     Inv-loop
     μ-loop
     loop-holds
-    shared-slice-read-greater
-    greater-requires
-    add-cell
-    loop-less
+    (λ c. search needs) (λ c κs. search needs) (λ c. search needs) (λ c. search needs)
     loop-again
     returns)

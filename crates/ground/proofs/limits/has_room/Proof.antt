@@ -6,16 +6,10 @@ use Rattle.ground.proofs.Counting.{room-below}
 use Rattle.ground.proofs.limits.has_room.Statement.{statement}
 use Rattle.ground.proofs.limits.has_room.Tie as tie
 
-wide-requires : tie.Need-wide-requires
-wide-requires c κs = search needs
-
 mul-result : tie.Need-mul-result
 mul-result c =
     let a = c .before in
     omega (arith, room-below (c .wide .result) (a .args .n) (c .wide .ensures .1) (a .pre))
-
-wide-requires-2 : tie.Need-wide-requires-2
-wide-requires-2 c κs = search needs
 
 add-result : tie.Need-add-result
 add-result c =
@@ -26,4 +20,4 @@ returns : tie.Need-returns
 returns c = rw (c .before .wide2 .ensures .0, c .before .before .wide .ensures .0)
 
 pub has-room-spec : {M : Type 1} → statement M
-has-room-spec = tie.close (tie.spec wide-requires mul-result wide-requires-2 add-result returns)
+has-room-spec = tie.close (tie.spec (λ c κs. search needs) mul-result (λ c κs. search needs) add-result returns)

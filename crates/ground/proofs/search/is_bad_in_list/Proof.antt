@@ -9,15 +9,6 @@ use borrow.Author.Needs.{needs}
 use Rattle.ground.proofs.search.is_bad_in_list.Statement.{statement}
 use Rattle.ground.proofs.search.is_bad_in_list.Tie as tie
 
-mul-in-range : tie.Need-mul-in-range
-mul-in-range c = search needs
-
-shared-slice-copy-out-in-range : tie.Need-shared-slice-copy-out-in-range
-shared-slice-copy-out-in-range c = search needs
-
-in-range-requires : tie.Need-in-range-requires
-in-range-requires c κs = search needs
-
 returns : tie.Need-returns
 returns c =
     let a = c .before .before .args in
@@ -26,4 +17,4 @@ returns c =
 
 pub is-bad-in-list-spec : {M : Type 1} → statement M
 is-bad-in-list-spec =
-    tie.close (tie.spec mul-in-range shared-slice-copy-out-in-range in-range-requires returns)
+    tie.close (tie.spec (λ c. search needs) (λ c. search needs) (λ c κs. search needs) returns)

@@ -1,11 +1,11 @@
 -- `network_impostors::own_receiver::own_indices` meets its contract: after k turns the first k entries are their own indices.
 -- Assumes nothing.
-use mathlib.Core.Path.{refl, _∙_, _≡_}
+use mathlib.Core.Path.{refl, sym, _∙_, _≡_}
 use Prim.Native.Nat.{_-_, _≤_}
 use native.Mathlib.Omega.{arith}
 use lib.ListN.{length, length-set}
 use borrow.Author.Needs.{needs}
-use Rattle.lists.proofs.Fill.{filled-next}
+use Rattle.lists.proofs.Filled.{filled-next, filled-none}
 use Rattle.lists.specs.Lists.{filled}
 use Rattle.network_impostors.proofs.own_receiver.own_indices.Statement.{statement}
 use Rattle.network_impostors.proofs.own_receiver.own_indices.Tie as tie
@@ -17,23 +17,7 @@ abbrev μ-loop : tie.MeasureT-loop
 μ-loop n list₀ k₀ list k = n - k
 
 loop-holds : tie.Need-loop-holds Inv-loop μ-loop
-unfolding filled
-loop-holds c = (search needs, refl, refl)
-
-cast-list : tie.Need-cast-list Inv-loop μ-loop
-cast-list c = search needs
-
-mul-list : tie.Need-mul-list Inv-loop μ-loop
-mul-list c = search needs
-
-slice-write-list : tie.Need-slice-write-list Inv-loop μ-loop
-slice-write-list c = search needs
-
-add-k : tie.Need-add-k Inv-loop μ-loop
-add-k c = search needs
-
-loop-less : tie.Need-loop-less Inv-loop μ-loop
-loop-less c = search needs
+loop-holds c = (search needs, refl, sym (filled-none _ _))
 
 loop-again : tie.Need-loop-again Inv-loop μ-loop
 loop-again c =
@@ -43,9 +27,6 @@ loop-again c =
       simp length-set (l .loop .inv .1),
       rw (l .loop .inv .2) (filled-next (λ j. j) (l .loop .k) (a .list .now) (omega arith)),
     )
-
-same-length : tie.Need-same-length Inv-loop μ-loop
-same-length c = search needs
 
 returns : tie.Need-returns Inv-loop μ-loop
 returns c =
@@ -60,11 +41,7 @@ own-indices-spec =
     Inv-loop
     μ-loop
     loop-holds
-    cast-list
-    mul-list
-    slice-write-list
-    add-k
-    loop-less
+    (λ c. search needs) (λ c. search needs) (λ c. search needs) (λ c. search needs) (λ c. search needs)
     loop-again
-    same-length
+    (λ c. search needs)
     returns)

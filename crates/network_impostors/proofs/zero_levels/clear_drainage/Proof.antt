@@ -1,11 +1,11 @@
 -- `network_impostors::zero_levels::clear_drainage` meets its contract: after k turns the first k entries are 0.
 -- Assumes nothing.
-use mathlib.Core.Path.{refl, _∙_, _≡_}
+use mathlib.Core.Path.{refl, sym, _∙_, _≡_}
 use Prim.Native.Nat.{_-_, _≤_}
 use native.Mathlib.Omega.{arith}
 use lib.ListN.{length, length-set}
 use borrow.Author.Needs.{needs}
-use Rattle.lists.proofs.Fill.{filled-next}
+use Rattle.lists.proofs.Filled.{filled-next, filled-none}
 use Rattle.lists.specs.Lists.{filled}
 use Rattle.network_impostors.proofs.zero_levels.clear_drainage.Statement.{statement}
 use Rattle.network_impostors.proofs.zero_levels.clear_drainage.Tie as tie
@@ -18,20 +18,7 @@ abbrev μ-loop : tie.MeasureT-loop
 μ-loop list₀ k₀ k-end list k = length list₀ - k
 
 loop-holds : tie.Need-loop-holds Inv-loop μ-loop
-unfolding filled
-loop-holds c = (refl, search needs, refl, refl)
-
-mul-list : tie.Need-mul-list Inv-loop μ-loop
-mul-list c = search needs
-
-slice-write-list : tie.Need-slice-write-list Inv-loop μ-loop
-slice-write-list c = search needs
-
-add-k : tie.Need-add-k Inv-loop μ-loop
-add-k c = search needs
-
-loop-less : tie.Need-loop-less Inv-loop μ-loop
-loop-less c = search needs
+loop-holds c = (refl, search needs, refl, sym (filled-none _ _))
 
 loop-again : tie.Need-loop-again Inv-loop μ-loop
 loop-again c =
@@ -42,9 +29,6 @@ loop-again c =
       simp length-set (l .loop .inv .2),
       rw (l .loop .inv .3) (filled-next (λ _. 0) (l .loop .k) (a .list .now) (omega arith)),
     )
-
-same-length : tie.Need-same-length Inv-loop μ-loop
-same-length c = search needs
 
 returns : tie.Need-returns Inv-loop μ-loop
 returns c =
@@ -59,10 +43,7 @@ clear-drainage-spec =
     Inv-loop
     μ-loop
     loop-holds
-    mul-list
-    slice-write-list
-    add-k
-    loop-less
+    (λ c. search needs) (λ c. search needs) (λ c. search needs) (λ c. search needs)
     loop-again
-    same-length
+    (λ c. search needs)
     returns)

@@ -6,17 +6,8 @@ use borrow.Author.Needs.{needs}
 use Rattle.record_impostors.proofs.clears_past.clear_at.Statement.{statement}
 use Rattle.record_impostors.proofs.clears_past.clear_at.Tie as tie
 
-slice-write-marks : tie.Need-slice-write-marks
-slice-write-marks c = search needs
-
-same-length : tie.Need-same-length
-same-length c = search needs
-
-returns : tie.Need-returns
-returns c = search needs
-
 returns-2 : tie.Need-returns-2
 returns-2 c = sym (set-out (c .before .args .marks .now) (c .before .args .at) 0 (c .if1 .left))
 
 pub clear-at-spec : {M : Type 1} → statement M
-clear-at-spec = tie.close (tie.spec slice-write-marks same-length returns returns-2)
+clear-at-spec = tie.close (tie.spec (λ c. search needs) (λ c. search needs) (λ c. search needs) returns-2)

@@ -8,21 +8,6 @@ use borrow.Author.Needs.{needs}
 use Rattle.record_impostors.proofs.clears_past.read_record.Statement.{statement}
 use Rattle.record_impostors.proofs.clears_past.read_record.Tie as tie
 
-read-record-requires : tie.Need-read-record-requires
-read-record-requires c κs = search needs
-
-clear-at-requires : tie.Need-clear-at-requires
-clear-at-requires c κs = search needs
-
-same-length : tie.Need-same-length
-same-length c = search needs
-
-same-length-2 : tie.Need-same-length-2
-same-length-2 c = search needs
-
-same-length-3 : tie.Need-same-length-3
-same-length-3 c = search needs
-
 returns : tie.Need-returns
 returns c =
     let k = c .before .before in
@@ -33,9 +18,5 @@ pub read-record-spec : {M : Type 1} → statement M
 read-record-spec =
     tie.close
     (tie.spec
-    read-record-requires
-    clear-at-requires
-    same-length
-    same-length-2
-    same-length-3
+    (λ c κs. search needs) (λ c κs. search needs) (λ c. search needs) (λ c. search needs) (λ c. search needs)
     returns)

@@ -6,17 +6,8 @@ use borrow.Author.Needs.{needs}
 use Rattle.record_impostors.proofs.writes_first.clear_first.Statement.{statement}
 use Rattle.record_impostors.proofs.writes_first.clear_first.Tie as tie
 
-slice-write-marks : tie.Need-slice-write-marks
-slice-write-marks c = search needs
-
-same-length : tie.Need-same-length
-same-length c = search needs
-
-returns : tie.Need-returns
-returns c = search needs
-
 returns-2 : tie.Need-returns-2
 returns-2 c = sym (set-out (c .before .args .marks .now) 0 0 (c .if1 .left))
 
 pub clear-first-spec : {M : Type 1} → statement M
-clear-first-spec = tie.close (tie.spec slice-write-marks same-length returns returns-2)
+clear-first-spec = tie.close (tie.spec (λ c. search needs) (λ c. search needs) (λ c. search needs) returns-2)

@@ -4,21 +4,6 @@ use borrow.Author.Needs.{needs}
 use Rattle.record_impostors.proofs.writes_first.read_record.Statement.{statement}
 use Rattle.record_impostors.proofs.writes_first.read_record.Tie as tie
 
-clear-first-requires : tie.Need-clear-first-requires
-clear-first-requires c κs = search needs
-
-read-record-requires : tie.Need-read-record-requires
-read-record-requires c κs = search needs
-
-same-length : tie.Need-same-length
-same-length c = search needs
-
-same-length-2 : tie.Need-same-length-2
-same-length-2 c = search needs
-
-same-length-3 : tie.Need-same-length-3
-same-length-3 c = search needs
-
 returns : tie.Need-returns
 returns c =
     let r = c .before .before .before .before .before in
@@ -28,9 +13,5 @@ pub read-record-spec : {M : Type 1} → statement M
 read-record-spec =
     tie.close
     (tie.spec
-    clear-first-requires
-    read-record-requires
-    same-length
-    same-length-2
-    same-length-3
+    (λ c κs. search needs) (λ c κs. search needs) (λ c. search needs) (λ c. search needs) (λ c. search needs)
     returns)

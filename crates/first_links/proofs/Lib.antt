@@ -1,3 +1,0 @@
-pub mod FlatPasses
-pub mod Joined
-pub mod FromWeights

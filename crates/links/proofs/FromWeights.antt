@@ -1,0 +1,37 @@
+-- The weights of a tile's first receivers are what the flat passes ask for: first receivers fall, so no two cells are each other's.
+-- Assumes nothing.
+use mathlib.Core.List.{List}
+use mathlib.Core.Logic.{inl, inr, _⊎_}
+use mathlib.Core.Path.{subst, sym, _∙_, _≡_}
+use Prim.Native.Nat.{ℕ, _<_, _≤_}
+use native.Mathlib.Omega.{arith}
+use lib.ListN.{length}
+use Rattle.first_receivers.specs.Weights.{Weighed}
+use Rattle.grid.specs.Window.{sides}
+use Rattle.links.specs.Leads.{Leading}
+use Rattle.lists.specs.Lists.{at}
+use Rattle.rules.proofs.FirstReceivers.{Falls, first-falls}
+use Rattle.rules.specs.FirstWays.{firstReceiver}
+use Rattle.rules.specs.Land.{Land, rule4}
+use Rattle.rules.specs.Tile.{Tile, tileLand}
+
+module _ (w : ℕ) (heights marks : List ℕ) (T : Tile w heights marks) where
+  abbrev L : Land
+  L = tileLand rule4 w heights marks
+
+  -- no two cells are each other's first receiver
+  one-way : (c d : ℕ) → firstReceiver L c ≡ d → firstReceiver L d ≡ c → c ≡ d
+  one-way c d e f = go (first-falls L c) (first-falls L d)
+    where
+      go : (firstReceiver L c ≡ c) ⊎ Falls L c (firstReceiver L c) → (firstReceiver L d ≡ d) ⊎ Falls L d (firstReceiver L d) → c ≡ d
+      go (inl a) b = sym a ∙ e
+      go (inr a) (inl b) = sym f ∙ b
+      go (inr a) (inr b) =
+          let p : at heights d < at heights c = subst (λ (x : ℕ). at heights x < at heights c) e (a .down) in
+          let q : at heights c < at heights d = subst (λ (x : ℕ). at heights x < at heights d) f (b .down) in
+          absurd (omega arith)
+
+  pub weights-leading : (weights : List ℕ) → length heights ≤ length weights → Weighed w (length heights) heights marks weights
+      → Leading sides w (length heights) (firstReceiver L) weights
+  weights-leading weights room W =
+      record { grid = T .grid; room = room; masks = W .masks; one-way = λ c d h k e f. one-way c d e f }

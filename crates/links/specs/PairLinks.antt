@@ -1,0 +1,46 @@
+-- The links of pairs (rules 5 and 6), added to masks that don't have them.
+-- Assumes nothing.
+use mathlib.Core.Bool.{Bool, true, _&&_, _||_}
+use mathlib.Core.List.{List}
+use mathlib.Core.Path.{_≡_}
+use Prim.Native.Nat.{ℕ, _+_, _-_, _<_, _≤_}
+use lib.Dec.{eqb}
+use lib.ListN.{length, set}
+use Rattle.grid.specs.Masks.{bitOf, Masks}
+use Rattle.grid.specs.Window.{Grid}
+use Rattle.lists.specs.Lists.{any, at, _∈_}
+use Rattle.pairs.specs.Pairs.{greaterOf, lesserOf, Pairs, placeIn}
+
+-- c and d are the cells a and b, in either order
+abbrev pub areCells : (a b c d : ℕ) → Bool
+areCells a b c d = (eqb a c && eqb b d) || (eqb b c && eqb a d)
+
+module _ (places : List ℕ) where
+  -- the bits of a pair: of the lesser cell towards the greater, and back
+  abbrev pub lesserBit : ℕ → ℕ
+  lesserBit p = bitOf places (placeIn places p)
+
+  abbrev pub greaterBit : ℕ → ℕ
+  greaterBit p = bitOf places (8 - placeIn places p)
+
+  -- all masks once the two bits are added
+  abbrev pub addedIn : (w p : ℕ) → List ℕ → List ℕ
+  addedIn w p links =
+      let a = lesserOf places p in
+      let b = greaterOf places w p in
+      set (set links a (at links a + lesserBit p)) b (at links b + greaterBit p)
+
+  -- E joins c and d, or they are the two cells of one of the pairs
+  unfoldable pub withPairs : (w : ℕ) (pairs : List ℕ) → (ℕ → ℕ → Bool) → ℕ → ℕ → Bool
+  withPairs w pairs E c d = E c d || any (λ p. areCells (lesserOf places p) (greaterOf places w p) c d) pairs
+
+  -- pairs of neighbours, no two of the same cells, and masks that say E, which goes both ways and joins none of the pairs
+  pub record Addable (w n : ℕ) (E : ℕ → ℕ → Bool) (pairs links : List ℕ) : Type 0 where
+    pub grid : Grid w n
+    pub room : n ≤ length links
+    pub neighbours : Pairs places w n pairs
+    pub both-ways : (c d : ℕ) → E c d ≡ E d c
+    pub new : (p : ℕ) → p ∈ pairs → E (lesserOf places p) (greaterOf places w p) ≡ true → ⊥
+    pub once : (i j : ℕ) → i < j → j < length pairs → lesserOf places (at pairs i) ≡ lesserOf places (at pairs j)
+        → greaterOf places w (at pairs i) ≡ greaterOf places w (at pairs j) → ⊥
+    pub masks : Masks places w n E links

@@ -1,3 +1,0 @@
-pub mod OneLink
-pub mod AddedLinks
-pub mod PairNetwork

@@ -1,0 +1,15 @@
+-- What linking the cells of a record leaves and walking them asks.
+-- Assumes nothing.
+use mathlib.Core.List.{List, map}
+use mathlib.Core.Path.{_≡_}
+use Prim.Native.Nat.{ℕ, _*_}
+use lib.ListN.{take}
+use Rattle.ground.specs.Record.{groundIn}
+use Rattle.rules.specs.Ground.{lifted}
+use Rattle.rules.specs.Land.{rule4}
+use Rattle.stages.specs.Linking.{Linked}
+
+-- the lifted heights of the ground of w by h cells in record s stand at the start of a list, and the links of its network in another
+pub record LinkedRecord (s : List ℕ) (w h : ℕ) (heights links : List ℕ) : Type 0 where
+  pub heights-are : take (h * w) heights ≡ map lifted (groundIn s w h .heights)
+  pub linked : Linked rule4 w (map lifted (groundIn s w h .heights)) (groundIn s w h .marks) links

@@ -1,0 +1,18 @@
+-- What every stage of the network asks of a tile's lists: lifted heights and marks, in whole rows of w cells.
+-- Assumes nothing.
+use mathlib.Core.List.{List}
+use mathlib.Core.Path.{_≡_}
+use Prim.Native.Nat.{ℕ, _≤_}
+use lib.ListN.{length}
+use Rattle.grid.specs.Window.{Grid}
+use Rattle.lists.specs.Lists.{at}
+use Rattle.rules.specs.Land.{Land, Rule, tile}
+
+pub record Tile (w : ℕ) (heights marks : List ℕ) : Type 0 where
+  pub grid : Grid w (length heights)
+  pub marked : length marks ≡ length heights
+  pub lifted : (c : ℕ) → at heights c ≤ 16000000
+
+-- the land of a tile's lists
+abbrev pub tileLand : Rule → (w : ℕ) (heights marks : List ℕ) → Land
+tileLand R w heights marks = tile R w (length heights) heights marks
