@@ -87,7 +87,7 @@ module _ (R : Rule) (I : IsRule (R .places)) (w : ℕ) (heights marks : List ℕ
         go (inl e) = differ (sym (singularOf-first L a) ∙ ap (singularOf L) (sym (first-are a h) ∙ eqb-true _ _ e))
         go (inr e) = differ (ap (singularOf L) (sym (eqb-true _ _ e) ∙ first-are b k) ∙ singularOf-first L b)
 
-    -- with the masks of first receivers all is there that carving asks for
+    -- with the masks of first receivers all is there that linking the pairs asks for
     pub tile-addable : (old links : List ℕ) → n ≤ length old → links ≡ filled (maskOf (R .places) w n (joined f)) n old
         → Addable (R .places) w n (joined f) pairs links
     tile-addable old links room e =
