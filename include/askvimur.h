@@ -8,7 +8,8 @@
  *             afterwards, are those of the rules, ties included. A refusal alters no byte. Bytes past the record stay as they were.
  *             No read or write outside the two records, no overflow, and the call always returns.
  *   Tested    That the compiled call does what was proved: it is compared, byte for byte, with a second program in Rust. That nothing
- *             in it calls itself, and how much stack it takes.
+ *             in it calls itself, and how much stack it takes. The functions that this header defines are plain C and
+ *             C++: what they read of the sample tiles is compared with the text of `drain`.
  *   Assumed   What the caller owes, below. Nothing can check it from inside the call.
  *
  * THE GROUND RECORD

@@ -31,10 +31,41 @@ write_starter() {
   chmod +x "$1"
 }
 
+# How many crates a crate rests on, itself included.
+crates_below() {
+  sed 's/#.*//' crates.txt | awk -F: -v top="$1" '
+    function add(crate,    below, i) {
+      if (!(crate in rests) || (crate in seen)) return
+      seen[crate] = 1
+      count++
+      split(rests[crate], below, " ")
+      for (i in below) add(below[i])
+    }
+    NF > 1 { gsub(/[[:space:]]/, "", $1); rests[$1] = $2 }
+    END { add(top); print count }'
+}
+
+# Proves a crate and all that it rests on. Each crate that is newly proved is named on standard error as it is done; what the prover
+# says is shown only where it fails.
+prove() {
+  local log code of count=0 line
+  log=$(mktemp)
+  of=$(crates_below "$1")
+  rt check "$1" 2>&1 | tee "$log" | while IFS= read -r line; do
+    [[ $line =~ ^rt:\ ([a-z_]+)\ proved\ \((.*)\)$ ]] || continue
+    count=$((count + 1))
+    [[ ${BASH_REMATCH[2]} == unchanged* ]] || echo "proved $count of $of: ${BASH_REMATCH[1]} (${BASH_REMATCH[2]})" >&2
+  done
+  code=${PIPESTATUS[0]}
+  [ "$code" -eq 0 ] || cat "$log" >&2
+  rm -f "$log"
+  return "$code"
+}
+
 starter() {
-  local program=$PWD/target/bin/$1 start=$PWD/target/start-$1 said
-  [ -x "$program" ] || echo "proving and building $1: some minutes" >&2
-  said=$(rt check "$1" 2>&1) || { echo "$said" >&2; return 1; }
+  local program=$PWD/target/bin/$1 start=$PWD/target/start-$1
+  [ -x "$program" ] || echo "proving and building $1: some minutes, once" >&2
+  prove "$1" || return 1
   if [ "$native" = yes ]; then
     echo "$program"
   else
@@ -46,7 +77,7 @@ starter() {
 
 build_library() {
   local said
-  said=$(rt check askvimur 2>&1) || { echo "$said"; return 1; }
+  prove askvimur || return 1
   [ target/staticlib/libaskvimur.a -nt target/stamp/askvimur ] && return
   said=$(rt staticlib askvimur 2>&1) || { echo "$said"; return 1; }
 }

@@ -4,9 +4,11 @@ use mathlib.Core.Bool.{Bool}
 use mathlib.Core.List.{List}
 use Prim.Native.Nat.{ℕ, _*_, _+_}
 use lib.ListN.{length}
-use Rattle.ground.specs.Judge.{refusalNumber, refusalPlace}
+use Rattle.ground.specs.Judge.{judgeRecord, leaves, refusalNumber, refusalPlace}
+use Rattle.ground.specs.Record.{groundOfRecord}
 use Rattle.ground.specs.Rooms.{roomFor}
-use Rattle.network_bytes.specs.NetworkRecord.{networkRecord}
+use Rattle.lists.specs.Allowed.{Allowed}
+use Rattle.network_bytes.specs.NetworkRecord.{networkBytes, networkRecord}
 use Rattle.rules.specs.Ground.{Ground}
 use Rattle.rules.specs.Network.{network}
 use Rattle.ground.specs.declared.Judged.{Judged}
@@ -22,5 +24,22 @@ roomOf out = roomFor 15 28 (length out)
 
 -- the answer: the length of the record, or the refusal's number times 65,536 plus its place
 abbrev pub answerTo : Judged → ℕ
-answerTo (Accepted w h) = 15 * (h * w) + 28
+answerTo (Accepted w h) = networkBytes (h * w)
 answerTo (Refused why) = refusalNumber why * 65536 + refusalPlace why
+
+module _ (ground before : List ℕ) where
+  -- the record's judgement, with the lent record as room
+  abbrev pub judgement : Judged
+  judgement = judgeRecord (roomOf before) ground
+
+  -- the lent record after an answer: the network record of the ground at its start where accepted, and as it was where refused
+  abbrev pub leftRecord : Judged → List ℕ
+  leftRecord r = leaves r (networkRecordOf (groundOfRecord ground)) before
+
+  -- the record call: the judgement, and the lent record as it leaves it
+  abbrev pub Called : (r : Judged) (after : List ℕ) → Type 0
+  Called = Allowed judgement leftRecord
+
+  -- the same for C: the judgement as one number
+  abbrev pub CalledFromC : (r : ℕ) (after : List ℕ) → Type 0
+  CalledFromC = Allowed (answerTo judgement) (λ _. leftRecord judgement)

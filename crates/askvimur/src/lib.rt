@@ -2,10 +2,11 @@
 ghost use mathlib.Core.Path.{_≡_};
 ghost use Prim.Native.Nat.{_*_, _+_, _≤_};
 ghost use lib.ListN.{length, take};
-ghost use Rattle.askvimur.specs.Answer.{answerTo, networkRecordOf, roomOf};
-ghost use Rattle.ground.specs.Judge.{judgeRecord, leaves, numberOf, placeOf};
-ghost use Rattle.ground.specs.Record.{groundIn, groundOfRecord};
+ghost use Rattle.askvimur.specs.Answer.{Called, CalledFromC, networkRecordOf};
+ghost use Rattle.ground.specs.Judge.{numberOf, placeOf};
+ghost use Rattle.ground.specs.Record.{groundIn};
 ghost use Rattle.lists.specs.Lists.{overwrite};
+ghost use Rattle.network_bytes.specs.NetworkRecord.{networkBytes};
 ghost use Rattle.record_stages.specs.LinkedRecord.{LinkedRecord};
 ghost use Rattle.record_stages.specs.Readable.{Readable};
 ghost use Rattle.rules.specs.Network.{liftedNetworkOf};
@@ -26,7 +27,7 @@ fn write_linked(
     network: &mut [u8],
 )
     requires { ⌜ Readable (now bytes) width height ⌝ }
-    requires { ⌜ LinkedRecord (now bytes) width height (now lifted) (now links) × (15 * (height * width) + 28 ≤ length (now network)) ⌝ }
+    requires { ⌜ LinkedRecord (now bytes) width height (now lifted) (now links) × (networkBytes (height * width) ≤ length (now network)) ⌝ }
     requires { ⌜ take (height * width) (now basins) ≡ liftedNetworkOf (groundIn (now bytes) width height) .basins ⌝ }
     ensures { λ _. ⌜ now (network .exit) ≡ overwrite (networkRecordOf (groundIn (now (bytes .entry)) width height)) (now (network .entry)) ⌝ }
 {
@@ -63,7 +64,7 @@ fn write_linked(
 // The network record of an accepted ground record. Work space: 28 KB, and that of linking or of writing.
 fn write_accepted(bytes: &[u8], width: u16, height: u16, network: &mut [u8])
     requires { ⌜ Readable (now bytes) width height ⌝ }
-    requires { ⌜ 15 * (height * width) + 28 ≤ length (now network) ⌝ }
+    requires { ⌜ networkBytes (height * width) ≤ length (now network) ⌝ }
     ensures { λ _. ⌜ now (network .exit) ≡ overwrite (networkRecordOf (groundIn (now (bytes .entry)) width height)) (now (network .entry)) ⌝ }
 {
     let mut lifted = [0u32; 4096];
@@ -85,17 +86,14 @@ fn refusal_answer(judged: Judged) -> u32
 // The answer to an accepted one: the length of its network record.
 fn length_answer(width: u16, height: u16) -> u32
     requires { ⌜ height * width ≤ 4096 ⌝ }
-    ensures { λ r. ⌜ r ≡ 15 * (height * width) + 28 ⌝ }
+    ensures { λ r. ⌜ r ≡ networkBytes (height * width) ⌝ }
 {
     (15 * ground::cells(width, height) + 28) as u32
 }
 
 // The network record of a ground record, at the start of a lent one. A refusal alters nothing, and bytes past the record stay.
 pub fn record_call(ground: &[u8], network: &mut [u8]) -> Judged
-    ensures { λ r. ⌜
-        (r ≡ judgeRecord (roomOf (now (network .entry))) (now (ground .entry)))
-        × (now (network .exit) ≡ leaves r (networkRecordOf (groundOfRecord (now (ground .entry)))) (now (network .entry)))
-        ⌝ }
+    ensures { λ r. ⌜ Called (now (ground .entry)) (now (network .entry)) r (now (network .exit)) ⌝ }
 {
     let room = Room {
         each: 15,
@@ -115,10 +113,7 @@ pub fn record_call(ground: &[u8], network: &mut [u8]) -> Judged
 // The same for C: the answer is the length written, 43 to 61,468, or for a refused record its number times 65,536 plus its place.
 #[no_mangle]
 pub extern "C" fn askvimur_network(ground: &[u8], network: &mut [u8]) -> u32
-    ensures { λ r.
-        let judged = judgeRecord (roomOf (now (network .entry))) (now (ground .entry)) in
-        ⌜ (r ≡ answerTo judged)
-        × (now (network .exit) ≡ leaves judged (networkRecordOf (groundOfRecord (now (ground .entry)))) (now (network .entry))) ⌝ }
+    ensures { λ r. ⌜ CalledFromC (now (ground .entry)) (now (network .entry)) r (now (network .exit)) ⌝ }
 {
     let judged = record_call(ground, network);
     match judged {

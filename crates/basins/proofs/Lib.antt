@@ -1,3 +1,4 @@
 pub mod Rounds
 pub mod Settled
 pub mod Numbered
+pub mod OneOutcome

@@ -10,6 +10,7 @@ use lib.Dec.{eqb}
 use lib.ListN.{length, length-append}
 use Rattle.basins.specs.Jumps.{FirstReceivers, oneIf, singularBelow, Within}
 use Rattle.basins.specs.Labels.{labelBy, Marked}
+use Rattle.basins.specs.Numbering.{labelIn}
 use Rattle.lists.proofs.Filled.{filled-again, filled-at, filled-same}
 use Rattle.lists.proofs.Keep.{keep-append, keep-same}
 use Rattle.lists.proofs.Range.{range-split, upto-below}
@@ -78,16 +79,23 @@ module _ (L : Land) (n : ℕ) (entries : List ℕ) (F : FirstReceivers L n entri
       ∙ ap (filled (basin L) n) b ∙ filled-again (basin L) (singularOf L) n entries
 
   -- and labelled
-  pub labelled : (marks numbers q out old labels : List ℕ) → Marked L n marks → numbers ≡ filled (singularBelow entries) n old
+  pub labelled : (marks numbers q out old labels : List ℕ) → numbers ≡ filled (singularBelow entries) n old
       → q ≡ filled (singularOf L) n entries → out ≡ filled (λ c. labelBy n (isOutlet marks (at q c)) (at numbers (at q c))) n labels
-      → out ≡ filled (labelOf L) n labels
-  unfolding labelOf
-  labelled marks numbers q out old labels M a b e =
-      e ∙ filled-same (λ c. labelBy n (isOutlet marks (at q c)) (at numbers (at q c))) (labelOf L) n labels found
+      → out ≡ filled (labelIn L n marks) n labels
+  labelled marks numbers q out old labels a b e =
+      e ∙ filled-same (λ c. labelBy n (isOutlet marks (at q c)) (at numbers (at q c))) (labelIn L n marks) n labels found
     where
-      found : (c : ℕ) → c < n → labelBy n (isOutlet marks (at q c)) (at numbers (at q c)) ≡ labelOf L c
+      found : (c : ℕ) → c < n → labelBy n (isOutlet marks (at q c)) (at numbers (at q c)) ≡ labelIn L n marks c
       found c h =
           ap (λ (d : ℕ). labelBy n (isOutlet marks d) (at numbers (at q c))) (cell-found q b c h)
-          ∙ ap (λ (t : Bool). cond t n (at numbers (at q c))) (sym (M (singularOf L c) (singular-in c h)))
-          ∙ ap (λ (k : ℕ). cond (L .outlet (singularOf L c)) n k) (number-found numbers q old a b c h)
+          ∙ ap (labelBy n (isOutlet marks (singularOf L c))) (number-found numbers q old a b c h)
+
+  -- by the land's own marks these are the labels of rule 4's nodes
+  pub labels-marked : (marks labels : List ℕ) → Marked L n marks → filled (labelIn L n marks) n labels ≡ filled (labelOf L) n labels
+  unfolding labelOf
+  labels-marked marks labels M = filled-same (labelIn L n marks) (labelOf L) n labels same
+    where
+      same : (c : ℕ) → c < n → labelIn L n marks c ≡ labelOf L c
+      same c h =
+          ap (λ (t : Bool). cond t n (basin L c)) (sym (M (singularOf L c) (singular-in c h)))
           ∙ ap (λ (k : ℕ). cond (L .outlet (singularOf L c)) k (basin L c)) (sym (F .cells))

@@ -5,12 +5,12 @@ ghost use Prim.Native.Nat.{_+_, _<_, _≤_};
 ghost use lib.Dec.{eqb};
 ghost use lib.ListN.{length};
 ghost use Rattle.basins.specs.Jumps.{anyMoved, FirstReceivers, jumped, movedOn, oneIf, singularBelow, Within};
-ghost use Rattle.basins.specs.Labels.{labelBy, Marked};
+ghost use Rattle.basins.specs.Labels.{labelBy};
+ghost use Rattle.basins.specs.Numbering.{BasinsNumbered};
 ghost use Rattle.lists.specs.Lists.{at, filled};
-ghost use Rattle.rules.specs.FirstWays.{basin, singularOf};
+ghost use Rattle.rules.specs.FirstWays.{singularOf};
 ghost use Rattle.rules.specs.Ground.{isOutlet};
 ghost use Rattle.rules.specs.Land.{Land};
-ghost use Rattle.rules.specs.NodeLabels.{labelOf};
 use kinds::Basin;
 use kinds::Cell;
 use rules::is_outlet;
@@ -83,10 +83,10 @@ fn number_basins(receivers: &[u16], n: usize, numbers: &mut [u16])
 }
 
 // The label of a cell, by its singular cell: all outlet basins have one, the count of cells, and any other has its basin's number.
-fn label_of(all: u16, outlet: bool, number: Basin) -> u16
-    ensures { λ r. ⌜ r ≡ labelBy all outlet (number .0) ⌝ }
+fn label_of(all: Basin, outlet: bool, number: Basin) -> Basin
+    ensures { λ r. ⌜ r .0 ≡ labelBy (all .0) outlet (number .0) ⌝ }
 {
-    if outlet { all } else { number.0 }
+    if outlet { all } else { number }
 }
 
 // Each entry, a cell, is replaced by the number that this cell has in a list; and each cell gets its label.
@@ -102,13 +102,13 @@ fn look_up(numbers: &[u16], marks: &[u8], n: usize, entries: &mut [u16], labels:
         n (now (labels .entry))
         ⌝ }
 {
-    let all = n as u16;
+    let all = Basin(n as u16);
     let mut c = 0;
     while c < n {
         let d = entries[c] as usize;
         let number = numbers[d];
         entries[c] = number;
-        labels[c] = label_of(all, is_outlet(marks[d]), Basin(number));
+        labels[c] = label_of(all, is_outlet(marks[d]), Basin(number)).0;
         c += 1;
     }
 }
@@ -118,11 +118,7 @@ pub fn basin_numbers(n: usize, marks: &[u8], entries: &mut [u16], labels: &mut [
     requires { ⌜ ((L : Land) × FirstReceivers L n (now entries)) ⌝ }
     requires { ⌜ (n ≤ length (now marks)) × (n ≤ length (now labels)) ⌝ }
     ensures { λ _. ⌜
-        ((L : Land) → FirstReceivers L n (now (entries .entry)) → now (entries .exit) ≡ filled (basin L) n (now (entries .entry)))
-        ⌝ }
-    ensures { λ _. ⌜
-        ((L : Land) → FirstReceivers L n (now (entries .entry)) → Marked L n (now (marks .entry))
-        → now (labels .exit) ≡ filled (labelOf L) n (now (labels .entry)))
+        BasinsNumbered n (now (marks .entry)) (now (entries .entry)) (now (labels .entry)) (now (entries .exit)) (now (labels .exit))
         ⌝ }
 {
     let mut numbers = [0u16; 4096];

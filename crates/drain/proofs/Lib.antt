@@ -1,2 +1,4 @@
 pub mod Printing
 pub mod Input
+pub mod LastLine
+pub mod OneOutcome

@@ -10,7 +10,7 @@ use lib.Dec.{eqb}
 use lib.ListN.{drop, drop-of-length-le, length, length-set, set, take, take-append-drop}
 use lib.Seq.{drop-cons, getD-set-other, getD-set-same, getD-take, split-at}
 use borrow.Author.Tests.{eq-eqb, eqb-false, eqb-true, ne-eqb}
-use Rattle.drainage.proofs.OwnReceivers.{own-outlet, receiver-cell}
+use Rattle.drainage.proofs.OwnReceivers.{own-outlet}
 use Rattle.drainage.specs.Giving.{given, Ordered}
 use Rattle.lists.proofs.Filled.{filled-again, filled-at, filled-by, filled-same}
 use Rattle.lists.proofs.Keep.{keep-member}
@@ -20,6 +20,7 @@ use Rattle.lists.proofs.Tests.{eq-or-ne, is, isnt, Known, known}
 use Rattle.lists.specs.Lists.{at, filled, keep, sum, upto, _∈_}
 use Rattle.rules.proofs.Backward.{acc, acc-behind, acc-gives, acc-le, acc-none, acc-order, acc-other, acc-outlet, total}
 use Rattle.rules.proofs.Backward.{total-drainage, total-le}
+use Rattle.rules.proofs.Bounds.{receiver-cell}
 use Rattle.rules.proofs.Orders.{order-mem}
 use Rattle.rules.proofs.WholeOrders.{order-whole}
 use Rattle.rules.specs.FirstWays.{solidCells}

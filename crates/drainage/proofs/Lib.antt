@@ -1,3 +1,4 @@
 pub mod OwnReceivers
 pub mod Backwards
 pub mod Ordered
+pub mod OneOutcome

@@ -1,23 +1,17 @@
--- Receivers that drain: each is a cell, and an outlet is the cell that is its own.
+-- Receivers that drain: an outlet is the cell that is its own.
 -- Assumes nothing.
 use mathlib.Core.List.{List}
 use mathlib.Core.Path.{subst, sym, _∙_, _≡_}
-use Prim.Native.Nat.{suc, ℕ, _<_}
+use Prim.Native.Nat.{suc, ℕ}
 use native.Mathlib.Omega.{arith}
 use lib.Dec.{eqb}
 use borrow.Author.Tests.{eq-eqb, ne-eqb}
 use Rattle.lists.specs.Lists.{at}
-use Rattle.rules.proofs.Orders.{runs-on}
 use Rattle.rules.proofs.Steps.{once-only}
 use Rattle.rules.specs.Land.{Land}
 use Rattle.rules.specs.Way.{done, Drains, more, Runs}
 
 module _ (L : Land) (r : List ℕ) (D : Drains L r) where
-  -- the receiver of a cell is a cell
-  pub receiver-cell : {c j : ℕ} → Runs L (at r) c j → at r c < L .cells
-  receiver-cell (done {c = a} h o) = subst (λ (z : ℕ). z < L .cells) (sym (D .own a h o)) h
-  receiver-cell (more h s o q) = runs-on L r q
-
   -- a cell is its own receiver exactly if it is an outlet
   pub own-outlet : {c j : ℕ} → Runs L (at r) c j → eqb (at r c) c ≡ L .outlet c
   own-outlet (done {c = a} h o) = eq-eqb (at r a) a (D .own a h o) ∙ sym o

@@ -1,4 +1,4 @@
--- What rule 9 is worked out from: the order and the receivers of a land without holes.
+-- What rule 9 is worked out from, the order and the receivers of a land without holes, and what is promised for it.
 -- Assumes nothing.
 use mathlib.Core.Bool.{cond, true}
 use mathlib.Core.List.{List}
@@ -6,9 +6,9 @@ use mathlib.Core.Path.{_≡_}
 use Prim.Native.Nat.{ℕ, _+_, _<_, _≤_}
 use lib.Dec.{eqb}
 use lib.ListN.{length, set, take}
-use Rattle.lists.specs.Lists.{at}
+use Rattle.lists.specs.Lists.{at, filled}
 use Rattle.rules.specs.Land.{Land}
-use Rattle.rules.specs.Network.{order}
+use Rattle.rules.specs.Network.{drainage, order}
 use Rattle.rules.specs.Way.{Drains}
 
 -- the first n entries are the order and the receivers r of a land of n cells that drains
@@ -21,6 +21,11 @@ pub record Ordered (L : Land) (r : List ℕ) (n : ℕ) (ordered receivers : List
   pub fits-receivers : n ≤ length receivers
   pub order-is : take n ordered ≡ order L r
   pub receivers-are : (c : ℕ) → c < n → at receivers c ≡ at r c
+
+-- what draining promises: the drainage of the first n cells, of whatever land the order and the receivers are
+abbrev pub Drained : (n : ℕ) (water ordered receivers before after : List ℕ) → Type 0
+Drained n water ordered receivers before after =
+    (L : Land) (r : List ℕ) → Ordered L r n ordered receivers → after ≡ filled (drainage L water r) n before
 
 -- c has given all it has to its receiver; an outlet, its own receiver, keeps it
 abbrev pub given : List ℕ → ℕ → ℕ → List ℕ

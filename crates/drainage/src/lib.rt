@@ -4,11 +4,10 @@ ghost use mathlib.Core.List.{List};
 ghost use mathlib.Core.Path.{_≡_};
 ghost use Prim.Native.Nat.{ℕ, _*_, _+_, _<_, _≤_};
 ghost use lib.ListN.{length};
-ghost use Rattle.drainage.specs.Giving.{given, Ordered};
+ghost use Rattle.drainage.specs.Giving.{Drained, given, Ordered};
 ghost use Rattle.lists.specs.Lists.{at, filled};
 ghost use Rattle.sections.specs.LittleEndian.{numbersAt};
 ghost use Rattle.rules.specs.Land.{Land};
-ghost use Rattle.rules.specs.Network as Network;
 use kinds::Cell;
 
 // A cell's own water as a number that drainage is counted in.
@@ -60,8 +59,7 @@ fn give_all(order: &[u16], receivers: &[u16], drainage: &mut [u32], n: usize)
     requires { ⌜ ((L : Land) × (r : List ℕ) × Ordered L r n (now order) (now receivers)) ⌝ }
     requires { ⌜ (n ≤ length (now drainage)) × ((c : ℕ) → c < n → at (now drainage) c ≤ 65535) ⌝ }
     ensures { λ _. ⌜
-        ((L : Land) → (r : List ℕ) → Ordered L r n (now (order .entry)) (now (receivers .entry))
-        → now (drainage .exit) ≡ filled (Network.drainage L (now (drainage .entry)) r) n (now (drainage .entry)))
+        Drained n (now (drainage .entry)) (now (order .entry)) (now (receivers .entry)) (now (drainage .entry)) (now (drainage .exit))
         ⌝ }
 {
     let mut place = n;
@@ -78,8 +76,8 @@ pub fn drain(water: &[u16], order: &[u16], receivers: &[u16], drainage: &mut [u3
     requires { ⌜ ((L : Land) × (r : List ℕ) × Ordered L r (length (now water)) (now order) (now receivers)) ⌝ }
     requires { ⌜ length (now water) ≤ length (now drainage) ⌝ }
     ensures { λ _. ⌜
-        ((L : Land) → (r : List ℕ) → Ordered L r (length (now (water .entry))) (now (order .entry)) (now (receivers .entry))
-        → now (drainage .exit) ≡ filled (Network.drainage L (now (water .entry)) r) (length (now (water .entry))) (now (drainage .entry)))
+        Drained (length (now (water .entry))) (now (water .entry)) (now (order .entry)) (now (receivers .entry)) (now (drainage .entry))
+        (now (drainage .exit))
         ⌝ }
 {
     own_water(water, drainage);
@@ -98,8 +96,8 @@ pub fn drain_section(
     requires { ⌜ ((L : Land) × (r : List ℕ) × Ordered L r n (now order) (now receivers)) ⌝ }
     requires { ⌜ (from + 2 * n ≤ length (now bytes)) × (n ≤ length (now drainage)) ⌝ }
     ensures { λ _. ⌜
-        ((L : Land) → (r : List ℕ) → Ordered L r n (now (order .entry)) (now (receivers .entry))
-        → now (drainage .exit) ≡ filled (Network.drainage L (numbersAt 2 (now (bytes .entry)) from n) r) n (now (drainage .entry)))
+        Drained n (numbersAt 2 (now (bytes .entry)) from n) (now (order .entry)) (now (receivers .entry)) (now (drainage .entry))
+        (now (drainage .exit))
         ⌝ }
 {
     section_water(bytes, from, n, drainage);

@@ -1,3 +1,4 @@
 pub mod Tried
 pub mod Keys
 pub mod Rows
+pub mod OneOutcome

@@ -9,7 +9,7 @@ use lib.ListN.{length}
 use Rattle.grid.specs.Masks.{bitOf, leads, Masks}
 use Rattle.grid.specs.Sides.{above, below}
 use Rattle.grid.specs.Window.{cellOr, sides, Stands}
-use Rattle.lists.specs.Lists.{at, _∈_}
+use Rattle.lists.specs.Lists.{at, filled, _∈_}
 use Rattle.rules.specs.FirstWays.{firstReceiver}
 use Rattle.rules.specs.Ground.{isOutlet}
 use Rattle.rules.specs.Land.{Land, rule4}
@@ -55,3 +55,8 @@ pub record Weighed (w n : ℕ) (heights marks weights : List ℕ) : Type 0 where
   pub tile : Tile w heights marks
   pub sized : length heights ≡ n
   pub masks : Masks sides w n (firstIs (tileLand rule4 w heights marks)) weights
+
+-- what `first_receivers` promises: the first receivers of n cells, of whatever tile the weights are
+abbrev pub FirstsFound : (w n : ℕ) (weights before after : List ℕ) → Type 0
+FirstsFound w n weights before after =
+    (heights marks : List ℕ) → Weighed w n heights marks weights → after ≡ filled (firstReceiver (tileLand rule4 w heights marks)) n before

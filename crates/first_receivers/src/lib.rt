@@ -12,13 +12,14 @@ ghost use Rattle.grid.specs.Masks.{maskOf};
 ghost use Rattle.grid.specs.Sides.{rightward};
 ghost use Rattle.grid.specs.Window.{Grid, sides};
 ghost use Rattle.lists.specs.Lists.{at, filled};
-ghost use Rattle.rules.specs.FirstWays.{firstReceiver};
 ghost use Rattle.rules.specs.Land.{rule4};
 ghost use Rattle.rules.specs.Tile.{Tile, tileLand};
 use grid::row_above;
 use grid::row_below;
+use kinds::Cell;
 use lists::least_u32;
 use rules::is_outlet;
+use std::num::wrapping_sub_u16;
 
 // The key of cell d at the side of this weight.
 fn key(heights: &[u32], d: usize, weight: u32) -> u32
@@ -106,36 +107,33 @@ pub fn weights(w: usize, heights: &[u32], marks: &[u8], out: &mut [u8])
 }
 
 // x where k is this weight, otherwise y.
-fn if_weight(k: u8, weight: u8, x: u16, y: u16) -> u16
-    ensures { λ r. ⌜ r ≡ cond (eqb k weight) x y ⌝ }
+fn if_weight(k: u8, weight: u8, x: Cell, y: Cell) -> Cell
+    ensures { λ r. ⌜ r .0 ≡ cond (eqb k weight) (x .0) (y .0) ⌝ }
 {
     if k == weight { x } else { y }
 }
 
 // The cell that c's weight leads to. All four are worked out before the tests: a cell that the tile has not may wrap, and isn't taken.
-fn led_to(w: u16, c: u16, k: u8) -> u16
-    requires { ⌜ ((n : ℕ) × (d : ℕ) × Grid w n × (c < n) × S.Placed w n c d k) ⌝ }
-    ensures { λ r. ⌜ ((n : ℕ) → (d : ℕ) → Grid w n → c < n → S.Placed w n c d k → r ≡ d) ⌝ }
+fn led_to(w: u16, c: Cell, k: u8) -> Cell
+    requires { ⌜ ((n : ℕ) × (d : ℕ) × Grid w n × (c .0 < n) × S.Placed w n (c .0) d k) ⌝ }
+    ensures { λ r. ⌜ ((n : ℕ) → (d : ℕ) → Grid w n → c .0 < n → S.Placed w n (c .0) d k → r .0 ≡ d) ⌝ }
 {
-    let up = if_weight(k, 1, std::num::wrapping_sub_u16(c, w), c);
-    let left = if_weight(k, 2, std::num::wrapping_sub_u16(c, 1), up);
-    let right = if_weight(k, 4, c + 1, left);
-    if_weight(k, 8, c + w, right)
+    let up = if_weight(k, 1, Cell(wrapping_sub_u16(c.0, w)), c);
+    let left = if_weight(k, 2, Cell(wrapping_sub_u16(c.0, 1)), up);
+    let right = if_weight(k, 4, Cell(c.0 + 1), left);
+    if_weight(k, 8, Cell(c.0 + w), right)
 }
 
 // The first receivers of all cells.
 pub fn first_receivers(w: usize, weights: &[u8], n: usize, out: &mut [u16])
     requires { ⌜ ((heights : List ℕ) × (marks : List ℕ) × S.Weighed w n heights marks (now weights)) ⌝ }
     requires { ⌜ (n ≤ length (now weights)) × (n ≤ length (now out)) ⌝ }
-    ensures { λ _. ⌜
-        ((heights : List ℕ) → (marks : List ℕ) → S.Weighed w n heights marks (now (weights .entry))
-        → now (out .exit) ≡ filled (firstReceiver (tileLand rule4 w heights marks)) n (now (out .entry)))
-        ⌝ }
+    ensures { λ _. ⌜ S.FirstsFound w n (now (weights .entry)) (now (out .entry)) (now (out .exit)) ⌝ }
 {
     let down = w as u16;
     let mut c = 0;
     while c < n {
-        out[c] = led_to(down, c as u16, weights[c]);
+        out[c] = led_to(down, Cell(c as u16), weights[c]).0;
         c += 1;
     }
 }

@@ -4,3 +4,5 @@ pub mod Neighbours
 pub mod Masks
 pub mod Sides
 pub mod Rules
+pub mod OneOutcome
+pub mod Counts

@@ -1,4 +1,5 @@
 -- What is accepted: exactly the good grounds, and exactly the records of the right length and distances whose ground is good.
+-- Accepted records have 23 to 28,688 bytes.
 -- Assumes nothing.
 use mathlib.Core.Bool.{Bool, false, true}
 use mathlib.Core.List.{List}
@@ -186,3 +187,11 @@ accept-record room s t l d r =
     rw (le-leb 16 (length s) (omega arith))
     (accepted (eqb (length s) (7 * n + 16)) (distancesRight s n) (room n) (groundOfRecord s)
     (good-held (eqb (length s) (7 * n + 16)) (distancesRight s n) (room n) (groundOfRecord s) t e d r))
+
+-- an accepted record has 1 to 4,096 cells, so 23 to 28,688 bytes
+pub accepted-length : {room : ℕ → Bool} (s : List ℕ) {w h : ℕ} → AcceptedRecord room s w h → (23 ≤ length s) × (length s ≤ 28688)
+accepted-length s a =
+    let l = a .long in
+    let some = a .good .outlet-below in
+    let few = good-few (groundOfRecord s) (a .good) in
+    (omega arith, omega arith)

@@ -4,3 +4,7 @@ pub mod Searching
 pub mod RecordCells
 pub mod SizedLists
 pub mod Acceptance
+pub mod Numbers
+pub mod OneOutcome
+pub mod Water
+pub mod Places

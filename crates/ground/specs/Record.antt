@@ -2,13 +2,13 @@
 -- Assumes nothing.
 use mathlib.Core.Bool.{Bool, _&&_}
 use mathlib.Core.List.{List, map, _++_}
-use Prim.Native.Nat.{ℕ, _*_, _+_, _-_}
+use Prim.Native.Nat.{ℕ, _*_, _+_}
 use lib.Dec.{eqb}
 use lib.IntN.{ℤ}
-use lib.ListN.{length}
 use Rattle.heights.specs.Bits.{heightsAt, heightSection, liftedBits}
 use Rattle.lists.specs.Lists.{stretch}
 use Rattle.sections.specs.LittleEndian.{bytesOf, numberAt, numbersAt, sectionOf}
+use Rattle.sections.specs.Trailer.{heightNamed, trailerStart, widthNamed}
 use Rattle.rules.specs.Ground.{Ground}
 
 -- the trailer: width (2), height (2), and three distances (4 each) back from its first byte to the first byte of heights, marks and
@@ -22,14 +22,14 @@ recordOf g = heightSection (g .heights) ++ g .marks ++ sectionOf 2 (g .water) ++
 
 -- the trailer of a record is its last 16 bytes
 abbrev pub trailerAt : List ℕ → ℕ
-trailerAt s = length s - 16
+trailerAt = trailerStart 16
 
 -- the width and the height that it names
 abbrev pub widthIn : List ℕ → ℕ
-widthIn s = numberAt 2 s (trailerAt s)
+widthIn = widthNamed 16
 
 abbrev pub heightIn : List ℕ → ℕ
-heightIn s = numberAt 2 s (trailerAt s + 2)
+heightIn = heightNamed 16
 
 -- its three distances are those of n cells
 abbrev pub distancesRight : List ℕ → ℕ → Bool

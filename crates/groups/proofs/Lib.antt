@@ -2,3 +2,4 @@ pub mod Roots
 pub mod Merging
 pub mod Following
 pub mod Renamed
+pub mod OneOutcome

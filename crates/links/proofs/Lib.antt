@@ -4,3 +4,4 @@ pub mod FromWeights
 pub mod OneLink
 pub mod AddedLinks
 pub mod PairNetwork
+pub mod OneOutcome

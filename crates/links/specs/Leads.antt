@@ -6,9 +6,9 @@ use mathlib.Core.Path.{_≡_}
 use Prim.Native.Nat.{ℕ, _+_, _-_, _<_, _≤_}
 use lib.Dec.{eqb, leb, ltb}
 use lib.ListN.{length}
-use Rattle.grid.specs.Masks.{leads, Masks}
+use Rattle.grid.specs.Masks.{joined, leads, maskOf, Masks}
 use Rattle.grid.specs.Window.{Grid}
-use Rattle.lists.specs.Lists.{at}
+use Rattle.lists.specs.Lists.{at, filled}
 
 -- what is added to cell i: m where its neighbour, so many places after it or before it, is on the tile and has weight k; one of the two
 -- counts is 0
@@ -30,3 +30,8 @@ pub record Leading (places : List ℕ) (w n : ℕ) (f : ℕ → ℕ) (weights : 
   pub room : n ≤ length weights
   pub masks : Masks places w n (leads f) weights
   pub one-way : (c d : ℕ) → c < n → d < n → f c ≡ d → f d ≡ c → c ≡ d
+
+-- what `link_leads` promises: the links with where each of n cells leads to, whatever the weights say of that
+abbrev pub LeadsLinked : (places : List ℕ) (w n : ℕ) (weights before after : List ℕ) → Type 0
+LeadsLinked places w n weights before after =
+    (f : ℕ → ℕ) → Leading places w n f weights → after ≡ filled (maskOf places w n (joined f)) n before

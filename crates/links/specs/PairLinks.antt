@@ -6,14 +6,18 @@ use mathlib.Core.Path.{_≡_}
 use Prim.Native.Nat.{ℕ, _+_, _-_, _<_, _≤_}
 use lib.Dec.{eqb}
 use lib.ListN.{length, set}
-use Rattle.grid.specs.Masks.{bitOf, Masks}
+use Rattle.grid.specs.Masks.{bitOf, maskOf, Masks}
 use Rattle.grid.specs.Window.{Grid}
-use Rattle.lists.specs.Lists.{any, at, _∈_}
+use Rattle.lists.specs.Lists.{any, at, filled, _∈_}
 use Rattle.pairs.specs.Pairs.{greaterOf, lesserOf, Pairs, placeIn}
 
 -- c and d are the cells a and b, in either order
 abbrev pub areCells : (a b c d : ℕ) → Bool
 areCells a b c d = (eqb a c && eqb b d) || (eqb b c && eqb a d)
+
+-- x added to cell a's mask and y to cell b's, both read before either is stored
+abbrev pub bothAdded : (a x b y : ℕ) → List ℕ → List ℕ
+bothAdded a x b y links = set (set links a (at links a + x)) b (at links b + y)
 
 module _ (places : List ℕ) where
   -- the bits of a pair: of the lesser cell towards the greater, and back
@@ -23,12 +27,9 @@ module _ (places : List ℕ) where
   abbrev pub greaterBit : ℕ → ℕ
   greaterBit p = bitOf places (8 - placeIn places p)
 
-  -- all masks once the two bits are added
+  -- all masks once the bits of a pair are added
   abbrev pub addedIn : (w p : ℕ) → List ℕ → List ℕ
-  addedIn w p links =
-      let a = lesserOf places p in
-      let b = greaterOf places w p in
-      set (set links a (at links a + lesserBit p)) b (at links b + greaterBit p)
+  addedIn w p links = bothAdded (lesserOf places p) (lesserBit p) (greaterOf places w p) (greaterBit p) links
 
   -- E joins c and d, or they are the two cells of one of the pairs
   unfoldable pub withPairs : (w : ℕ) (pairs : List ℕ) → (ℕ → ℕ → Bool) → ℕ → ℕ → Bool
@@ -44,3 +45,8 @@ module _ (places : List ℕ) where
     pub once : (i j : ℕ) → i < j → j < length pairs → lesserOf places (at pairs i) ≡ lesserOf places (at pairs j)
         → greaterOf places w (at pairs i) ≡ greaterOf places w (at pairs j) → ⊥
     pub masks : Masks places w n E links
+
+  -- what `link_pairs` promises: the links that the masks say, whatever these are, and those of the pairs
+  abbrev pub PairsLinked : (w : ℕ) (pairs before after : List ℕ) → Type 0
+  PairsLinked w pairs before after =
+      (n : ℕ) (E : ℕ → ℕ → Bool) → Addable w n E pairs before → after ≡ filled (maskOf places w n (withPairs w pairs E)) n before

@@ -6,12 +6,12 @@ ghost use mathlib.Core.Path.{_≡_};
 ghost use Prim.Native.Nat.{ℕ, _+_, _<_, _≤_};
 ghost use lib.Dec.{eqb};
 ghost use lib.ListN.{length};
-ghost use Rattle.grid.specs.Masks.{joined, maskOf};
 ghost use Rattle.grid.specs.Window.{sides};
-ghost use Rattle.links.specs.Leads.{Added, addedTo, Leading, Low};
-ghost use Rattle.links.specs.PairLinks.{Addable, addedIn, greaterBit, lesserBit, withPairs};
+ghost use Rattle.links.specs.Leads.{Added, addedTo, Leading, LeadsLinked, Low};
+ghost use Rattle.links.specs.PairLinks.{Addable, addedIn, bothAdded, greaterBit, lesserBit, PairsLinked};
 ghost use Rattle.lists.specs.Lists.{at, filled};
 ghost use Rattle.pairs.specs.Pairs.{greaterOf, lesserOf};
+use kinds::Cell;
 use pairs::greater;
 use pairs::lesser;
 
@@ -61,9 +61,7 @@ fn add(
 // (2), and so on.
 pub fn link_leads(w: usize, weights: &[u8], n: usize, links: &mut [u8])
     requires { ⌜ ((f : ℕ → ℕ) × Leading sides w n f (now weights)) × (n ≤ length (now links)) ⌝ }
-    ensures { λ _. ⌜
-        ((f : ℕ → ℕ) → Leading sides w n f (now (weights .entry)) → now (links .exit) ≡ filled (maskOf sides w n (joined f)) n (now (links .entry)))
-        ⌝ }
+    ensures { λ _. ⌜ LeadsLinked sides w n (now (weights .entry)) (now (links .entry)) (now (links .exit)) ⌝ }
 {
     own_weights(weights, n, links);
     add(0, 1, weights, n, links, 4, 2);
@@ -86,27 +84,33 @@ fn greater_bit(p: u16) -> u8
     if p % 2 == 1 { 1 } else { 2 }
 }
 
-// Links the two cells of a pair. Both masks are read before either is stored.
+// Adds a bit to the mask of each of two cells. Both masks are read before either is stored.
+fn link_two(links: &mut [u8], lesser: Cell, forth: u8, greater: Cell, back: u8)
+    requires { ⌜ (lesser .0 < length (now links)) × (greater .0 < length (now links)) × (forth ≤ 8) × (back ≤ 8) ⌝ }
+    requires { ⌜ (at (now links) (lesser .0) < 16) × (at (now links) (greater .0) < 16) ⌝ }
+    ensures { λ _. ⌜ now (links .exit) ≡ bothAdded (lesser .0) forth (greater .0) back (now (links .entry)) ⌝ }
+{
+    let of_lesser = links[lesser.0 as usize];
+    let of_greater = links[greater.0 as usize];
+    links[lesser.0 as usize] = of_lesser + forth;
+    links[greater.0 as usize] = of_greater + back;
+}
+
+// Links the two cells of a pair.
 fn link_pair(w: usize, p: u16, links: &mut [u8])
     requires { ⌜ (w ≤ 64) × (greaterOf sides w p < 4096) × (greaterOf sides w p < length (now links)) ⌝ }
     requires { ⌜ (at (now links) (lesserOf sides p) < 16) × (at (now links) (greaterOf sides w p) < 16) ⌝ }
     ensures { λ _. ⌜ now (links .exit) ≡ addedIn sides w p (now (links .entry)) ⌝ }
 {
-    let a = lesser(p).0 as usize;
-    let b = greater(w, p).0 as usize;
-    let of_lesser = links[a];
-    let of_greater = links[b];
-    links[a] = of_lesser + lesser_bit(p);
-    links[b] = of_greater + greater_bit(p);
+    let a = lesser(p);
+    let b = greater(w, p);
+    link_two(links, a, lesser_bit(p), b, greater_bit(p));
 }
 
 // Links the two cells of every pair: in the loop the pairs before place i are linked.
 pub fn link_pairs(w: usize, pairs: &[u16], links: &mut [u8])
     requires { ⌜ ((n : ℕ) × (E : ℕ → ℕ → Bool) × Addable sides w n E (now pairs) (now links)) ⌝ }
-    ensures { λ _. ⌜
-        ((n : ℕ) → (E : ℕ → ℕ → Bool) → Addable sides w n E (now (pairs .entry)) (now (links .entry))
-        → now (links .exit) ≡ filled (maskOf sides w n (withPairs sides w (now (pairs .entry)) E)) n (now (links .entry)))
-        ⌝ }
+    ensures { λ _. ⌜ PairsLinked sides w (now (pairs .entry)) (now (links .entry)) (now (links .exit)) ⌝ }
 {
     let mut i = 0;
     while i < pairs.len() {

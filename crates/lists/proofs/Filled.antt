@@ -43,10 +43,15 @@ module _ {A : Type 0} where
   unfolding filled
   filled-same f g n old h = ap (λ (l : List A). overwrite l old) (tab-same f g n h)
 
+  -- where n entries were stored before
+  pub filled-onto : (f : ℕ → A) (n : ℕ) (mid old : List A) → length mid ≡ n → filled f n (overwrite mid old) ≡ filled f n old
+  unfolding filled
+  filled-onto f n mid old e = overwrite-again (tab n f) mid old (e ∙ sym (tab-length f n))
+
   -- twice
   pub filled-again : (f g : ℕ → A) (n : ℕ) (old : List A) → filled f n (filled g n old) ≡ filled f n old
   unfolding filled
-  filled-again f g n old = overwrite-again (tab n f) (tab n g) old (tab-length g n ∙ sym (tab-length f n))
+  filled-again f g n old = filled-onto f n (tab n g) old (tab-length g n)
 
   -- over lists that are one past n
   pub filled-over : (f : ℕ → A) (n : ℕ) (a b : List A) → drop n a ≡ drop n b → filled f n a ≡ filled f n b

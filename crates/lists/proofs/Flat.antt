@@ -5,8 +5,10 @@ use mathlib.Core.List.{List·Memᴰ·head as in-head, List·Memᴰ·not-nil as i
 use mathlib.Core.List.{Memᴰ·append-left as in-left, Memᴰ·append-right as in-right, _++_, _∷_}
 use mathlib.Core.Logic.{inl, inr, _⊎_}
 use mathlib.Core.Path.{ap, refl, subst, sym, _∙_, _≡_}
-use Prim.Native.Nat.{ℕ, _+_}
+use Prim.Native.Nat.{ℕ, _+_, _≤_}
 use native.Mathlib.Nat.{zero-add}
+use native.Mathlib.Omega.{arith}
+use lib.ListN.{length, length-append}
 use Rattle.lists.proofs.Range.{range-split}
 use Rattle.lists.specs.Lists.{flat, range, upto, _∈_}
 
@@ -32,6 +34,11 @@ module _ {A B : Type 0} where
   pub flat-same : (f g : A → List B) (l : List A) → ((x : A) → x ∈ l → f x ≡ g x) → flat f l ≡ flat g l
   flat-same f g [] h = refl
   flat-same f g (x ∷ xs) h = rw (h x (in-head refl), flat-same f g xs (λ y m. h y (in-tail m)))
+
+  -- lists of at most one element each
+  pub flat-few : (f : A → List B) (l : List A) → ((x : A) → length (f x) ≤ 1) → length (flat f l) ≤ length l
+  flat-few f [] h = omega arith
+  flat-few f (x ∷ xs) h = omega (arith, h x, flat-few f xs h, length-append (f x) (flat f xs))
 
 -- the lists of one number more
 pub flat-next : {B : Type 0} (f : ℕ → List B) (n : ℕ) → flat f (upto (n + 1)) ≡ flat f (upto n) ++ f n

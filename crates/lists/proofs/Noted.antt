@@ -3,11 +3,12 @@
 use mathlib.Core.List.{[], List, List·Memᴰ·append-cases as in-append, List·Memᴰ·eq-of-singleton, List·Memᴰ·head as in-head}
 use mathlib.Core.List.{List·Memᴰ·not-nil as in-none, Memᴰ·append-left as in-left, Memᴰ·append-right as in-right, _++_, _∷_}
 use mathlib.Core.Logic.{inl, inr, _⊎_}
-use mathlib.Core.Path.{refl, _∙_, _≡_}
+use mathlib.Core.Path.{refl, sym, _∙_, _≡_}
 use Prim.Native.Nat.{ℕ, _<_, _≤_}
 use native.Mathlib.Omega.{arith}
 use lib.ListN.{length, length-set, set}
-use lib.Seq.{getD-set-other, getD-set-same}
+use lib.Seq.{ext-getD, getD-set-other, getD-set-same}
+use Rattle.lists.proofs.Determined.{one-answer}
 use Rattle.lists.proofs.Filled.{filled-by}
 use Rattle.lists.proofs.Tests.{eq-or-ne}
 use Rattle.lists.specs.Lists.{at, filled, _∈_}
@@ -37,3 +38,14 @@ pub noted-all : (f : ℕ → ℕ) (n : ℕ) (places old l : List ℕ) → n ≤ 
     → ((x : ℕ) → x ∈ places → x < n) → Noted f places old l → l ≡ filled f n old
 noted-all f n places old l h all only k =
     filled-by f n old l h (k .size) (λ x i. k .there x (all x i)) (λ x i. k .elsewhere x (λ m. let u : x < n = only x m in omega arith))
+
+-- no other list has the same numbers noted: where the two differed, the place would be none of the places, and not be elsewhere
+pub noted-one : {f : ℕ → ℕ} {places old l l′ : List ℕ} → Noted f places old l → Noted f places old l′ → l ≡ l′
+noted-one {f} {places} {old} {l} {l′} N M = ext-getD 0 l l′ (N .size ∙ sym (M .size)) (λ x h. go x (eq-or-ne (at l x) (at l′ x)))
+  where
+    go : (x : ℕ) → (at l x ≡ at l′ x) ⊎ (at l x ≡ at l′ x → ⊥) → at l x ≡ at l′ x
+    go x (inl e) = e
+    go x (inr z) = absurd (z (one-answer (N .elsewhere x out) (M .elsewhere x out)))
+      where
+        out : x ∈ places → ⊥
+        out m = z (one-answer (N .there x m) (M .there x m))

@@ -1,11 +1,11 @@
--- Sums over lists: of parts, of the same elements in another order, taken the other way round.
+-- Sums over lists: of parts, of the same elements in another order, taken the other way round, and their bounds.
 -- Assumes nothing.
 use mathlib.Core.Bool.{Bool, cond, false, not, true}
 use mathlib.Core.List.{[], List, List·Memᴰ·cases-cons as in-cases, List·Memᴰ·head as in-head, List·Memᴰ·not-nil as in-none}
 use mathlib.Core.List.{List·Memᴰ·tail as in-tail, map, _++_, _∷_}
 use mathlib.Core.Logic.{inl, inr, _⊎_}
 use mathlib.Core.Path.{ap, refl, subst, sym, _∙_, _≡_}
-use Prim.Native.Nat.{zero-le, ℕ, _*_, _+_, _≤_}
+use Prim.Native.Nat.{suc, zero-le, ℕ, _*_, _+_, _<_, _≤_}
 use native.Mathlib.Nat.{mul-suc, suc-mul, zero-add, zero-mul}
 use native.Mathlib.Omega.{arith}
 use lib.Dec.{eqb}
@@ -15,7 +15,7 @@ use Rattle.lists.proofs.Keep.{keep-all, keep-holds, keep-member}
 use Rattle.lists.proofs.Map.{map-same}
 use Rattle.lists.proofs.Once.{once-keep}
 use Rattle.lists.proofs.Tests.{clash, is, isnt, known, Known, so-not}
-use Rattle.lists.specs.Lists.{flat, keep, Once, once-next, sum, _∈_}
+use Rattle.lists.specs.Lists.{at, flat, keep, Once, once-next, sum, _∈_}
 
 sum-add : (f g : ℕ → ℕ) (l : List ℕ) → sum (map (λ x. f x + g x) l) ≡ sum (map f l) + sum (map g l)
 sum-add f g [] = refl
@@ -102,3 +102,10 @@ module _ (w : ℕ → ℕ) where
   pub sum-most : (b : ℕ) (l : List ℕ) → ((x : ℕ) → x ∈ l → w x ≤ b) → sum (map w l) ≤ b * length l
   sum-most b [] h = zero-le
   sum-most b (x ∷ xs) h = omega (arith, h x (in-head refl), sum-most b xs (λ y m. h y (in-tail m)), mul-suc b (length xs))
+
+-- a list whose entries are at most b
+pub sum-most-at : (b : ℕ) (l : List ℕ) → ((k : ℕ) → k < length l → at l k ≤ b) → sum l ≤ b * length l
+sum-most-at b [] h = zero-le
+sum-most-at b (x ∷ xs) h =
+    let first : x ≤ b = h 0 (omega arith) in
+    omega (arith, sum-most-at b xs (λ k l. h (suc k) (omega arith)), mul-suc b (length xs))

@@ -10,7 +10,7 @@ use lib.ListN.{getD, length, length-map}
 use lib.Seq.{ext-getD}
 use Rattle.lists.proofs.Map.{map-at}
 use Rattle.lists.proofs.Range.{range-length, range-split, upto-at}
-use Rattle.lists.specs.Lists.{range, tab, upto}
+use Rattle.lists.specs.Lists.{Below, range, tab, upto}
 
 module _ {A : Type 0} where
   pub tab-length : (f : ℕ → A) (n : ℕ) → length (tab n f) ≡ n
@@ -40,3 +40,7 @@ module _ {A : Type 0} where
 -- a function of every entry
 pub tab-map : {A B : Type 0} (f : A → B) (g : ℕ → A) (n : ℕ) → map f (tab n g) ≡ tab n (λ k. f (g k))
 tab-map f g n = map-map f g (upto n)
+
+-- a function that stays below b
+pub tab-below : (f : ℕ → ℕ) (n b : ℕ) → ((k : ℕ) → k < n → f k < b) → Below b (tab n f)
+tab-below f n b h k l = let i : k < n = rw (tab-length f n) at l in rw (tab-at f n k 0 i) (h k i)

@@ -1,5 +1,6 @@
 pub mod Lifts
 pub mod Grounds
 pub mod Networks
+pub mod AcceptedCalls
 pub mod LeftDemand3
 pub mod OneOutcome

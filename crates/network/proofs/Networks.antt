@@ -6,29 +6,20 @@ use Prim.Native.Nat.{ℕ, _<_, _≤_}
 use native.Mathlib.Omega.{arith}
 use lib.IntN.{ℤ}
 use lib.ListN.{length}
-use Rattle.ground.proofs.Acceptance.{good-few}
 use Rattle.ground.specs.Good.{Good}
 use Rattle.lists.proofs.Tab.{tab-at, tab-length}
 use Rattle.lists.specs.Lists.{at, overwrite}
 use Rattle.network.proofs.Grounds.{good-drainable, good-tile, lifted-full}
-use Rattle.rules.proofs.Demand3Holds.{ground-lawful}
-use Rattle.rules.proofs.Draining.{receivers-drain}
-use Rattle.rules.proofs.Levels.{level-peak}
-use Rattle.rules.proofs.SixLists.{liftedNetwork-full, sixLists-same}
+use Rattle.rules.proofs.Bounds.{level-most}
+use Rattle.rules.proofs.NetworkDrains.{network-drains}
+use Rattle.rules.proofs.SixLists.{liftedNetwork-full, networkOf-full, sixLists-same}
 use Rattle.rules.specs.Carving.{receivers}
-use Rattle.rules.specs.Demand3.{peak}
 use Rattle.rules.specs.Ground.{cellsOf, dropped, Ground, lifted, Lifted}
 use Rattle.rules.specs.Land.{Land, land4, rule4, tile}
 use Rattle.rules.specs.Network.{level, liftedNetwork, liftedNetworkOf, Network, network, networkOf}
 use Rattle.rules.specs.SixLists.{Full, onto, sixLists}
-use Rattle.rules.specs.Way.{done, Drains, more, Runs}
+use Rattle.rules.specs.Way.{Drains}
 use Rattle.rules.specs.Tile.{tileLand}
-
--- a peak is no higher than the highest cell
-peak-below : (L : Land) (next : ℕ → ℕ) (m : ℕ) → ((c : ℕ) → c < L .cells → L .height c ≤ m) → {c j : ℕ} (w : Runs L next c j) → peak L next w ≤ m
-unfolding peak
-peak-below L next m f (done {c = a} h o) = f a h
-peak-below L next m f (more {c = a} h s o w) = let x = f a h in let y = peak-below L next m f w in omega arith
 
 module _ (g : Ground) (G : Good g) where
   abbrev L : Land
@@ -38,17 +29,20 @@ module _ (g : Ground) (G : Good g) where
   r = receivers (land4 g)
 
   pub drains : Drains (land4 g) (receivers (land4 g))
-  drains = receivers-drain L (ground-lawful g (good-drainable g G)) (let f = good-few g G in omega arith)
+  unfolding network networkOf liftedNetwork
+  drains = network-drains g (good-drainable g G)
 
   -- the network has an entry for each cell
   pub network-full : Full (cellsOf g) (liftedNetworkOf g)
   network-full = liftedNetwork-full L (g .water) r drains (λ c h. refl)
 
+  pub good-full : Full (cellsOf g) (network g)
+  unfolding network
+  good-full = networkOf-full L (g .water) r drains (λ c h. refl)
+
   -- every level is a lifted height
   levels-lifted : (c : ℕ) → c < cellsOf g → level L r c ≤ 16000000
-  levels-lifted c h =
-      let w = drains .ways c h refl in
-      rw (level-peak L r (w .1)) (peak-below L (at r) 16000000 (λ d k. good-tile g G .tile .lifted d) (w .1))
+  levels-lifted c h = level-most L r drains c h refl 16000000 (λ d k. good-tile g G .tile .lifted d)
 
   -- the tile of the lifted lists is the land of the ground, and its network that of the ground
   pub tile-is-land : tileLand rule4 (g .width) (map lifted (g .heights)) (g .marks) ≡ land4 g

@@ -1,13 +1,13 @@
--- Any two outcomes that the contract of the network call allows are equal.
+-- Any two outcomes that the contract of the network call allows are equal. The contract is that in src/.
 -- Assumes nothing.
-use mathlib.Core.Path.{_≡_}
-use lib.IntN.{ℤ}
 use Rattle.lists.proofs.Determined.{one-outcome}
-use Rattle.network.specs.Call.{left, Outcome}
-use Rattle.rules.specs.Ground.{Ground}
-use Rattle.rules.specs.Network.{Network, network}
-use Rattle.ground.specs.declared.Judged.{Judged}
+use Rattle.lists.specs.Contract.{OneOutcome}
+use Rattle.rules.specs.SixLists.{sixLists}
+use Rattle.network.proofs.network.Kinds as network-kinds
+use Rattle.network.proofs.network.Reads as network
 
-module _ (g : Ground) (before : Network ℤ) {r r′ : Judged} {after after′ : Network ℤ} where
-  pub network-one : Outcome g before r after → Outcome g before r′ after′ → (r ≡ r′) × (after ≡ after′)
-  network-one a b = one-outcome (λ j. left j (network g) before) (a .answer) (b .answer) (a .lists) (b .lists)
+-- the answer and the six lists
+pub network-one : OneOutcome 9 network-kinds.ps network-kinds.r network.Asked network.Learnt
+    (λ κs a r e. sixLists (e .1 .1 .1 .1 .1 .0 .now) (e .1 .1 .1 .1 .1 .1 .0 .now) (e .1 .1 .1 .1 .1 .1 .1 .0 .now)
+    (e .1 .1 .1 .1 .1 .1 .1 .1 .0 .now) (e .1 .1 .1 .1 .1 .1 .1 .1 .1 .0 .now) (e .1 .1 .1 .1 .1 .1 .1 .1 .1 .1 .0 .now))
+network-one κs a p r r′ e e′ x y = one-outcome x y

@@ -1,11 +1,11 @@
--- What a network call leaves in the six lent lists.
+-- What a network call allows: its answer, and what it leaves in the six lent lists.
 -- Assumes nothing.
 use mathlib.Core.Bool.{Bool}
-use mathlib.Core.Path.{_≡_}
 use Prim.Native.Nat.{ℕ}
 use lib.IntN.{ℤ}
 use Rattle.ground.specs.Judge.{judgeLists}
 use Rattle.ground.specs.Rooms.{roomFor}
+use Rattle.lists.specs.Allowed.{Allowed}
 use Rattle.rules.specs.Ground.{Ground}
 use Rattle.rules.specs.Network.{Network, network}
 use Rattle.rules.specs.SixLists.{onto, shortest}
@@ -21,7 +21,11 @@ left (Refused why) net before = before
 abbrev pub networkHolds : Network ℤ → ℕ → Bool
 networkHolds before = roomFor 1 0 (shortest before)
 
--- the outcome of a call on a ground: the answer, and the six lists before and after it
-pub record Outcome (g : Ground) (before : Network ℤ) (r : Judged) (after : Network ℤ) : Type 0 where
-  pub answer : r ≡ judgeLists (networkHolds before) g
-  pub lists : after ≡ left r (network g) before
+-- what a call allows that answers `said`, and draws the network `net` where that accepts
+abbrev pub Draws : (said : Judged) (net before : Network ℤ) (r : Judged) (after : Network ℤ) → Type 0
+Draws said net before = Allowed said (λ r. left r net before)
+
+-- the outcome of a call on a ground: the answer is the judgement of its lists; where it accepts, its network stands at the start of the
+-- six lent lists, and where it refuses they are as they were
+abbrev pub Outcome : (g : Ground) (before : Network ℤ) (r : Judged) (after : Network ℤ) → Type 0
+Outcome g before = Draws (judgeLists (networkHolds before) g) (network g) before

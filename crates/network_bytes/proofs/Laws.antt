@@ -4,6 +4,7 @@ use mathlib.Core.List.{[], append-assoc, List, map, _++_, _∷_}
 use mathlib.Core.Path.{ap, refl, _∙_, _≡_}
 use Prim.Native.Nat.{suc, ℕ, _*_, _+_, _<_, _≤_}
 use native.Mathlib.Omega.{arith}
+use lib.IntN.{ℤ}
 use lib.ListN.{length, length-append, length-map, length-take, take}
 use Rattle.heights.proofs.Heights.{droppedBits-dropped}
 use Rattle.heights.specs.Bits.{bitsOf, droppedBits}
@@ -12,11 +13,11 @@ use Rattle.lists.proofs.Overwrite.{overwrite-next}
 use Rattle.lists.specs.Lists.{at, overwrite, stored}
 use Rattle.sections.proofs.Sections.{length-sectionOf, section-next}
 use Rattle.sections.specs.LittleEndian.{bytesOf, sectionFilled}
-use Rattle.network_bytes.specs.NetworkRecord.{distances, flowSections, networkRecord, networkTrailer}
+use Rattle.network_bytes.specs.NetworkRecord.{distances, flowSections, networkBytes, networkRecord, networkTrailer}
 use Rattle.network_bytes.specs.NetworkRecord.{waterSections, Writable}
 use Rattle.rules.specs.Ground.{dropped, Lifted}
 use Rattle.rules.specs.Network.{dropLevels, Network}
-use Rattle.rules.specs.SixLists.{firstOf}
+use Rattle.rules.specs.SixLists.{firstOf, Full}
 
 -- lifted levels written by their bits are the section of the signed ones
 pub levels-dropped : (l : List ℕ) → Lifted l → map droppedBits l ≡ map bitsOf (map dropped l)
@@ -36,6 +37,11 @@ levels-next levels old i h k e =
 pub length-distances : (n : ℕ) → length (distances n) ≡ 24
 unfolding distances
 length-distances n = refl
+
+-- 15N + 28 bytes
+pub length-networkRecord : (w h : ℕ) (net : Network ℤ) → Full (h * w) net → length (networkRecord w h net) ≡ networkBytes (h * w)
+unfolding networkRecord networkTrailer
+length-networkRecord w h net F = simp (length-append, length-sectionOf, length-map, length-distances) (omega arith)
 
 -- the two halves and the trailer, written one after the other, are the record
 pub record-written : {x y z : List ℕ} (w h n : ℕ) → n ≡ h * w → (s : Network ℕ) (bytes : List ℕ) → Writable w h s bytes

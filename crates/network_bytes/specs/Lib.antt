@@ -1,1 +1,4 @@
 pub mod NetworkRecord
+pub mod ReadNetwork
+pub mod Tellable
+pub mod Samples

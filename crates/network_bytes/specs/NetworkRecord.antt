@@ -19,6 +19,10 @@ distances n =
 unfoldable pub networkTrailer : ℕ → ℕ → List ℕ
 networkTrailer w h = bytesOf 2 w ++ bytesOf 2 h ++ distances (h * w)
 
+-- the length of the record of a network of n cells
+abbrev pub networkBytes : ℕ → ℕ
+networkBytes n = 15 * n + 28
+
 -- the record of a network of w by h cells, 15N + 28 bytes: receivers (2 bytes each), basins (2), order (2), levels (4, signed),
 -- drainage (4), wet (1), then the trailer
 unfoldable pub networkRecord : ℕ → ℕ → Network ℤ → List ℕ
@@ -40,4 +44,4 @@ pub record Writable (w h : ℕ) (s : Network ℕ) (bytes : List ℕ) : Type 0 wh
   pub few : h * w ≤ 4096
   pub holds : Holds (h * w) s
   pub levels-lifted : Lifted (take (h * w) (s .levels))
-  pub room : 15 * (h * w) + 28 ≤ length bytes
+  pub room : networkBytes (h * w) ≤ length bytes

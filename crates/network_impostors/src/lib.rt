@@ -5,6 +5,7 @@ ghost use Rattle.network.specs.Call.{Outcome};
 ghost use Rattle.rules.specs.SixLists.{sixLists};
 use ground::Judged;
 
+mod answers; // answers.rt: what the impostors ask of the answer
 mod own_receiver; // own_receiver.rt: each cell is its own receiver
 mod refuses_every_tile; // refuses_every_tile.rt: no tile is good enough
 mod sample_d_for_all; // sample_d_for_all.rt: every 3 by 3 tile gets the network of sample D

@@ -1,12 +1,12 @@
-// An impostor: the right answer, and then each cell is made its own receiver.
+// An impostor: the right answer, and then each cell of an accepted tile is made its own receiver.
 ghost use mathlib.Core.Path.{_≡_};
 ghost use Prim.Native.Nat.{_≤_};
 ghost use lib.ListN.{length};
-ghost use Rattle.ground.specs.Judge.{judgeLists};
 ghost use Rattle.ground.specs.Record.{groundOfLists};
 ghost use Rattle.lists.specs.Lists.{filled};
-ghost use Rattle.network.specs.Call.{networkHolds};
+ghost use Rattle.network_impostors.specs.Impostors.{LeavesWrong, ownReceivers};
 ghost use Rattle.rules.specs.SixLists.{sixLists};
+use crate::answers::accepted_cells;
 use ground::Judged;
 
 // The first n entries are their own indices.
@@ -19,7 +19,7 @@ fn own_indices(n: usize, list: &mut [u16])
     }
 }
 
-// The right answer; the receivers are wrong.
+// Right but for the receivers.
 pub fn network(
     width: u16,
     height: u16,
@@ -33,12 +33,15 @@ pub fn network(
     drainage: &mut [u32],
     wet: &mut [u8],
 ) -> Judged
-    ensures answer { λ r.
+    ensures { λ r.
         let g = groundOfLists width height (now (heights .entry)) (now (marks .entry)) (now (water .entry)) in
         let before =
         sixLists (now (receivers .entry)) (now (basins .entry)) (now (order .entry)) (now (levels .entry)) (now (drainage .entry))
         (now (wet .entry)) in
-        ⌜ r ≡ judgeLists (networkHolds before) g ⌝ }
+        let after =
+        sixLists (now (receivers .exit)) (now (basins .exit)) (now (order .exit)) (now (levels .exit)) (now (drainage .exit))
+        (now (wet .exit)) in
+        ⌜ LeavesWrong ownReceivers g before r after ⌝ }
 {
     let judged = network::network(
         width,
@@ -53,6 +56,6 @@ pub fn network(
         drainage,
         wet,
     );
-    own_indices(lists::least(receivers.len(), 4096), receivers);
+    own_indices(accepted_cells(judged), receivers);
     judged
 }

@@ -1,7 +1,6 @@
 // An impostor: every tile is refused with 6, which is right for a tile without an outlet.
-ghost use mathlib.Core.Path.{_≡_};
+ghost use Rattle.network_impostors.specs.Impostors.{RefusesEveryTile};
 ghost use Rattle.rules.specs.SixLists.{sixLists};
-ghost use Rattle.ground.specs.declared.Refusal.the-variants.{NoOutlet};
 use ground::Judged;
 use ground::Refusal;
 
@@ -19,15 +18,14 @@ pub fn network(
     drainage: &mut [u32],
     wet: &mut [u8],
 ) -> Judged
-    ensures answer { λ r. ⌜ r ≡ Judged.Refused NoOutlet ⌝ }
-    ensures lists { λ _.
+    ensures { λ r.
         let before =
         sixLists (now (receivers .entry)) (now (basins .entry)) (now (order .entry)) (now (levels .entry)) (now (drainage .entry))
         (now (wet .entry)) in
         let after =
         sixLists (now (receivers .exit)) (now (basins .exit)) (now (order .exit)) (now (levels .exit)) (now (drainage .exit))
         (now (wet .exit)) in
-        ⌜ after ≡ before ⌝ }
+        ⌜ RefusesEveryTile before r after ⌝ }
 {
     Judged::Refused(Refusal::NoOutlet)
 }

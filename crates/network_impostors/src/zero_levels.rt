@@ -1,24 +1,36 @@
-// An impostor: the right answer and the right receivers, and then zeros for levels and drainage.
+// An impostor: the right answer and the right receivers, and then zeros for the levels and the drainage of an accepted tile.
 ghost use mathlib.Core.Path.{_≡_};
+ghost use Prim.Native.Nat.{_≤_};
 ghost use lib.IntN.{pos};
 ghost use lib.ListN.{length};
-ghost use Rattle.ground.specs.Judge.{judgeLists};
 ghost use Rattle.ground.specs.Record.{groundOfLists};
 ghost use Rattle.lists.specs.Lists.{filled};
-ghost use Rattle.network.specs.Call.{networkHolds};
+ghost use Rattle.network_impostors.specs.Impostors.{LeavesWrong, zeroLevels};
 ghost use Rattle.rules.specs.SixLists.{sixLists};
+use crate::answers::accepted_cells;
 use ground::Judged;
 
-// All drainage is 0.
-fn clear_drainage(list: &mut [u32])
-    ensures { λ _. ⌜ now (list .exit) ≡ filled (λ _. 0) (length (now (list .entry))) (now (list .entry)) ⌝ }
+// The first n levels are 0.
+fn clear_levels(n: usize, list: &mut [i32])
+    requires { ⌜ n ≤ length (now list) ⌝ }
+    ensures { λ _. ⌜ now (list .exit) ≡ filled (λ _. pos 0) n (now (list .entry)) ⌝ }
 {
-    for k in 0..list.len() {
+    for k in 0..n {
         list[k] = 0;
     }
 }
 
-// The right answer and receivers; levels and drainage are wrong.
+// The drainage of the first n cells is 0.
+fn clear_drainage(n: usize, list: &mut [u32])
+    requires { ⌜ n ≤ length (now list) ⌝ }
+    ensures { λ _. ⌜ now (list .exit) ≡ filled (λ _. 0) n (now (list .entry)) ⌝ }
+{
+    for k in 0..n {
+        list[k] = 0;
+    }
+}
+
+// Right but for the levels and the drainage.
 pub fn network(
     width: u16,
     height: u16,
@@ -32,12 +44,15 @@ pub fn network(
     drainage: &mut [u32],
     wet: &mut [u8],
 ) -> Judged
-    ensures answer { λ r.
+    ensures { λ r.
         let g = groundOfLists width height (now (heights .entry)) (now (marks .entry)) (now (water .entry)) in
         let before =
         sixLists (now (receivers .entry)) (now (basins .entry)) (now (order .entry)) (now (levels .entry)) (now (drainage .entry))
         (now (wet .entry)) in
-        ⌜ r ≡ judgeLists (networkHolds before) g ⌝ }
+        let after =
+        sixLists (now (receivers .exit)) (now (basins .exit)) (now (order .exit)) (now (levels .exit)) (now (drainage .exit))
+        (now (wet .exit)) in
+        ⌜ LeavesWrong zeroLevels g before r after ⌝ }
 {
     let judged = network::network(
         width,
@@ -52,16 +67,8 @@ pub fn network(
         drainage,
         wet,
     );
-    clear_levels(levels);
-    clear_drainage(drainage);
+    let n = accepted_cells(judged);
+    clear_levels(n, levels);
+    clear_drainage(n, drainage);
     judged
-}
-
-// All levels are 0.
-fn clear_levels(list: &mut [i32])
-    ensures { λ _. ⌜ now (list .exit) ≡ filled (λ _. pos 0) (length (now (list .entry))) (now (list .entry)) ⌝ }
-{
-    for k in 0..list.len() {
-        list[k] = 0;
-    }
 }

@@ -119,7 +119,7 @@ module _ {R : Rule} (H : Holeless R) {w : ℕ} {heights marks labels list : List
               neighbours = λ p i. neighbours p (keep-member (λ q. isChosen L (crossingOf (R .places) w q)) s i .0);
             })
 
--- the contract of `choose_pairs` allows one list only: the chosen passes have one order, and a crossing has one pair
+-- a tile's chosen passes are one list of pairs: they have one order, and a crossing has one pair
 pub chose-same : {R : Rule} → IsRule (R .places) → {w : ℕ} {heights marks a b : List ℕ} → ChosenPairs R w heights marks a
     → ChosenPairs R w heights marks b → a ≡ b
 chose-same {R} I {w} {heights} {marks} {a} {b} A B =

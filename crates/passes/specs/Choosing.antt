@@ -3,7 +3,7 @@
 use mathlib.Core.List.{List, map}
 use mathlib.Core.Path.{_≡_}
 use Prim.Native.Nat.{ℕ, _≤_}
-use lib.ListN.{length}
+use lib.ListN.{length, take}
 use Rattle.lists.specs.Lists.{tab}
 use Rattle.pairs.specs.Pairs.{crossingOf, mostPairs, Pairs}
 use Rattle.rules.specs.Enough.{AllChosen}
@@ -23,3 +23,8 @@ pub record Choosable (R : Rule) (w : ℕ) (heights marks labels list : List ℕ)
 pub record ChosenPairs (R : Rule) (w : ℕ) (heights marks pairs : List ℕ) : Type 0 where
   pub chosen : AllChosen (tileLand R w heights marks) (map (crossingOf (R .places) w) pairs)
   pub neighbours : Pairs (R .places) w (length heights) pairs
+
+-- what `choose_pairs` promises: the first r entries are the pairs of the chosen passes, of whatever tile with these heights and labels
+pub record PairsChosen (R : Rule) (w : ℕ) (heights labels before : List ℕ) (r : ℕ) (after : List ℕ) : Type 0 where
+  pub within : r ≤ length after
+  pub pairs : (marks : List ℕ) → Choosable R w heights marks labels before → ChosenPairs R w heights marks (take r after)

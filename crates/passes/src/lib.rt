@@ -3,12 +3,12 @@
 ghost use mathlib.Core.List.{List};
 ghost use mathlib.Core.Path.{_≡_};
 ghost use Prim.Native.Nat.{ℕ, _<_, _≤_};
-ghost use lib.ListN.{length, take};
+ghost use lib.ListN.{length};
 ghost use Rattle.grid.specs.Window.{sides};
 ghost use Rattle.groups.specs.Groups.{Down, Joined, twoGroups};
 ghost use Rattle.lists.specs.Lists.{at, upto};
 ghost use Rattle.pairs.specs.Pairs.{crossingOf, greaterOf, lesserOf};
-ghost use Rattle.passes.specs.Choosing.{Choosable, ChosenPairs};
+ghost use Rattle.passes.specs.Choosing.{Choosable, PairsChosen};
 ghost use Rattle.passes.specs.Picking.{Pickable, Picked};
 ghost use Rattle.rules.specs.Land.{Land, rule4};
 use groups::alone;
@@ -76,11 +76,7 @@ fn pick(w: usize, labels: &[u16], list: &mut [u16]) -> usize
 // The pairs of the chosen passes of a tile, in the order of rule 3, at the start of the list. Gives their number.
 pub fn choose_pairs(w: usize, heights: &[u32], labels: &[u16], list: &mut [u16]) -> usize
     requires { ⌜ ((marks : List ℕ) × Choosable rule4 w (now heights) marks (now labels) (now list)) ⌝ }
-    ensures { λ r. ⌜
-        (r ≤ length (now (list .exit)))
-        × ((marks : List ℕ) → Choosable rule4 w (now (heights .entry)) marks (now (labels .entry)) (now (list .entry))
-        → ChosenPairs rule4 w (now (heights .entry)) marks (take r (now (list .exit))))
-        ⌝ }
+    ensures { λ r. ⌜ PairsChosen rule4 w (now (heights .entry)) (now (labels .entry)) (now (list .entry)) r (now (list .exit)) ⌝ }
 {
     let count = list_pairs(w, heights, labels, list);
     sort_pairs(w, heights, &mut list[..count]);

@@ -1,3 +1,4 @@
 pub mod Readable
 pub mod Lifted
 pub mod LinkedRecord
+pub mod WalkedRecord

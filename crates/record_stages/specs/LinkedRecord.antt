@@ -5,11 +5,18 @@ use mathlib.Core.Path.{_≡_}
 use Prim.Native.Nat.{ℕ, _*_}
 use lib.ListN.{take}
 use Rattle.ground.specs.Record.{groundIn}
+use Rattle.lists.specs.Lists.{overwrite}
 use Rattle.rules.specs.Ground.{lifted}
 use Rattle.rules.specs.Land.{rule4}
+use Rattle.rules.specs.Network.{liftedNetworkOf}
 use Rattle.stages.specs.Linking.{Linked}
 
 -- the lifted heights of the ground of w by h cells in record s stand at the start of a list, and the links of its network in another
 pub record LinkedRecord (s : List ℕ) (w h : ℕ) (heights links : List ℕ) : Type 0 where
   pub heights-are : take (h * w) heights ≡ map lifted (groundIn s w h .heights)
   pub linked : Linked rule4 w (map lifted (groundIn s w h .heights)) (groundIn s w h .marks) links
+
+-- and its basins at the start of the list that was lent for them
+pub record RecordLinked (s : List ℕ) (w h : ℕ) (before heights basins links : List ℕ) : Type 0 where
+  pub linked : LinkedRecord s w h heights links
+  pub basins-are : basins ≡ overwrite (liftedNetworkOf (groundIn s w h) .basins) before

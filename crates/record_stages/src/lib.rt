@@ -4,12 +4,11 @@
 ghost use mathlib.Core.Path.{_≡_};
 ghost use Prim.Native.Nat.{_*_, _≤_};
 ghost use lib.ListN.{length};
-ghost use Rattle.ground.specs.Record.{groundIn};
-ghost use Rattle.lists.specs.Lists.{filled, overwrite};
+ghost use Rattle.lists.specs.Lists.{filled};
 ghost use Rattle.record_stages.specs.Lifted.{InRangeAt, liftedAt};
-ghost use Rattle.record_stages.specs.LinkedRecord.{LinkedRecord};
+ghost use Rattle.record_stages.specs.LinkedRecord.{LinkedRecord, RecordLinked};
 ghost use Rattle.record_stages.specs.Readable.{Readable};
-ghost use Rattle.rules.specs.Network.{liftedNetworkOf};
+ghost use Rattle.record_stages.specs.WalkedRecord.{RecordWalked};
 ghost use Rattle.walk.specs.Walk.{lent, LentHolds};
 use drainage::drain_section;
 use stages::link_cells;
@@ -39,9 +38,8 @@ pub fn link_record(
     requires { ⌜
         (height * width ≤ length (now lifted)) × (height * width ≤ length (now basins)) × (length (now links) ≡ 4224)
         ⌝ }
-    ensures linked { λ _. ⌜ LinkedRecord (now (bytes .entry)) width height (now (lifted .exit)) (now (links .exit)) ⌝ }
-    ensures basins { λ _. ⌜
-        now (basins .exit) ≡ overwrite (liftedNetworkOf (groundIn (now (bytes .entry)) width height) .basins) (now (basins .entry))
+    ensures { λ _. ⌜
+        RecordLinked (now (bytes .entry)) width height (now (basins .entry)) (now (lifted .exit)) (now (basins .exit)) (now (links .exit))
         ⌝ }
 {
     let n = ground::cells(width, height);
@@ -69,22 +67,10 @@ pub fn walk_record(
     requires { ⌜ Readable (now bytes) width height ⌝ }
     requires { ⌜ LinkedRecord (now bytes) width height (now lifted) (now links) ⌝ }
     requires { ⌜ LentHolds (height * width) (lent (now drainage) (now order) (now receivers) (now levels) (now wet)) ⌝ }
-    ensures receivers { λ _. ⌜
-        now (receivers .exit)
-        ≡ overwrite (liftedNetworkOf (groundIn (now (bytes .entry)) width height) .receivers) (now (receivers .entry))
-        ⌝ }
-    ensures order { λ _. ⌜
-        now (order .exit) ≡ overwrite (liftedNetworkOf (groundIn (now (bytes .entry)) width height) .order) (now (order .entry))
-        ⌝ }
-    ensures levels { λ _. ⌜
-        now (levels .exit) ≡ overwrite (liftedNetworkOf (groundIn (now (bytes .entry)) width height) .levels) (now (levels .entry))
-        ⌝ }
-    ensures drainage { λ _. ⌜
-        now (drainage .exit) ≡ overwrite (liftedNetworkOf (groundIn (now (bytes .entry)) width height) .drainage) (now (drainage .entry))
-        ⌝ }
-    ensures wet { λ _. ⌜
-        now (wet .exit) ≡ overwrite (liftedNetworkOf (groundIn (now (bytes .entry)) width height) .wet) (now (wet .entry))
-        ⌝ }
+    ensures { λ _.
+        let before = lent (now (drainage .entry)) (now (order .entry)) (now (receivers .entry)) (now (levels .entry)) (now (wet .entry)) in
+        let after = lent (now (drainage .exit)) (now (order .exit)) (now (receivers .exit)) (now (levels .exit)) (now (wet .exit)) in
+        ⌜ RecordWalked (now (bytes .entry)) width height before after ⌝ }
 {
     let n = ground::cells(width, height);
     let w = width as usize;

@@ -7,9 +7,8 @@ ghost use Rattle.lists.specs.Lists.{overwrite, stored, stretch};
 ghost use Rattle.sections.specs.LittleEndian.{numbersAt};
 ghost use Rattle.heights.specs.Bits.{heightsAt};
 ghost use Rattle.ground.specs.Good.{Good};
-ghost use Rattle.ground.specs.Judge.{judgeLists, judgeRecord, leaves};
-ghost use Rattle.ground.specs.Record.{groundOfLists, groundOfRecord, recordOf, trailer};
-ghost use Rattle.ground.specs.Rooms.{listsHold, recordHolds};
+ghost use Rattle.ground.specs.Record.{groundOfLists, recordOf, trailer};
+ghost use Rattle.records.specs.Calls.{Read, threeLists, Written};
 use ground::Judged;
 use ground::Room;
 
@@ -28,12 +27,10 @@ fn read_cells(bytes: &[u8], n: usize, heights: &mut [i32], marks: &mut [u8], wat
 
 // A ground record into lent lists of heights, marks and water, each of at least N entries.
 pub fn read_record(bytes: &[u8], heights: &mut [i32], marks: &mut [u8], water: &mut [u16]) -> Judged
-    ensures answer { λ r.
-        let room = listsHold (now (heights .entry)) (now (marks .entry)) (now (water .entry)) in
-        ⌜ r ≡ judgeRecord room (now (bytes .entry)) ⌝ }
-    ensures heights { λ r. ⌜ now (heights .exit) ≡ leaves r (groundOfRecord (now (bytes .entry)) .heights) (now (heights .entry)) ⌝ }
-    ensures marks { λ r. ⌜ now (marks .exit) ≡ leaves r (groundOfRecord (now (bytes .entry)) .marks) (now (marks .entry)) ⌝ }
-    ensures water { λ r. ⌜ now (water .exit) ≡ leaves r (groundOfRecord (now (bytes .entry)) .water) (now (water .entry)) ⌝ }
+    ensures { λ r.
+        let before = threeLists (now (heights .entry)) (now (marks .entry)) (now (water .entry)) in
+        let after = threeLists (now (heights .exit)) (now (marks .exit)) (now (water .exit)) in
+        ⌜ Read (now (bytes .entry)) before r after ⌝ }
 {
     let room = Room {
         each: 1,
@@ -103,12 +100,9 @@ pub fn write_record(
     water: &[u16],
     bytes: &mut [u8],
 ) -> Judged
-    ensures answer { λ r.
+    ensures { λ r.
         let g = groundOfLists width height (now (heights .entry)) (now (marks .entry)) (now (water .entry)) in
-        ⌜ r ≡ judgeLists (recordHolds (now (bytes .entry))) g ⌝ }
-    ensures bytes { λ r.
-        let g = groundOfLists width height (now (heights .entry)) (now (marks .entry)) (now (water .entry)) in
-        ⌜ now (bytes .exit) ≡ leaves r (recordOf g) (now (bytes .entry)) ⌝ }
+        ⌜ Written g (now (bytes .entry)) r (now (bytes .exit)) ⌝ }
 {
     let room = Room {
         each: 7,

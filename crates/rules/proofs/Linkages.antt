@@ -60,7 +60,7 @@ network-linkage R I w heights marks T W links fits M =
       is-rule = I;
       tile = T;
       fits-links = fits;
-      drains = receivers-drain (tileLand R w heights marks) W (let f = T .grid .few in omega arith);
+      drains = receivers-drain (tileLand R w heights marks) W (λ c s. let f = T .grid .few in omega arith);
       beside = receivers-beside (tileLand R w heights marks) W;
       masks = M;
     }

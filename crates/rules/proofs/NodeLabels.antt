@@ -5,11 +5,10 @@ use mathlib.Core.List.{List}
 use mathlib.Core.Path.{ap, sym, _∙_, _≡_}
 use Prim.Native.Nat.{ℕ, _<_, _≤_}
 use native.Mathlib.Omega.{arith}
-use Rattle.lists.proofs.Count.{count-below}
 use Rattle.lists.proofs.Tab.{tab-at}
 use Rattle.lists.proofs.Tests.{is, isnt, Known, known}
 use Rattle.lists.specs.Lists.{at, tab}
-use Rattle.rules.proofs.BasinNumbers.{basin-is, basin-same, pit, same-basin}
+use Rattle.rules.proofs.BasinNumbers.{basin-below, basin-same, same-basin}
 use Rattle.rules.proofs.Crossings.{node-root, node-same}
 use Rattle.rules.proofs.FirstReceivers.{singularOf-below}
 use Rattle.rules.specs.FirstWays.{basin, singularOf}
@@ -19,14 +18,6 @@ use Rattle.rules.specs.Way.{Lawful}
 use Rattle.rules.specs.NodeLabels.{labelOf, Labelled}
 
 module _ (L : Land) (W : Lawful L) where
-  -- a basin's number and its singular cell are below the count of cells
-  small : (c : ℕ) → c < L .cells → L .solid c ≡ true → basin L c < L .cells
-  small c h s =
-      let e = basin-is L W c s in
-      let a = count-below (pit L W) (singularOf L c) in
-      let b : singularOf L c < L .cells = singularOf-below L c h in
-      omega arith
-
   inner-node : (c : ℕ) → L .outlet (singularOf L c) ≡ false → node L c ≡ singularOf L c
   unfolding node
   inner-node c o = rw o
@@ -45,8 +36,8 @@ module _ (L : Land) (W : Lawful L) where
       where
         go : Known (L .outlet (singularOf L c)) → Known (L .outlet (singularOf L d)) → node L c ≡ node L d
         go (is o) (is p) = node-root L c o ∙ sym (node-root L d p)
-        go (is o) (isnt p) = let q = sym (outer-label c o) ∙ e ∙ inner-label d p in absurd (omega (arith, q, small d k t))
-        go (isnt o) (is p) = let q = sym (inner-label c o) ∙ e ∙ outer-label d p in absurd (omega (arith, q, small c h s))
+        go (is o) (isnt p) = let q = sym (outer-label c o) ∙ e ∙ inner-label d p in absurd (omega (arith, q, basin-below L d k t))
+        go (isnt o) (is p) = let q = sym (inner-label c o) ∙ e ∙ outer-label d p in absurd (omega (arith, q, basin-below L c h s))
         go (isnt o) (isnt p) = node-same L c d (basin-same L W c d s t (sym (inner-label c o) ∙ e ∙ inner-label d p))
 
     pub node-label : node L c ≡ node L d → labelOf L c ≡ labelOf L d
@@ -72,7 +63,7 @@ module _ (L : Land) (W : Lawful L) where
     where
       go : (t : Bool) → cond t (L .cells) (basin L c) ≤ L .cells
       go true = omega arith
-      go false = let b = small c h s in omega arith
+      go false = let b = basin-below L c h s in omega arith
 
   -- labels that are the land's, of a land without holes
   pub labels-tell : (labels : List ℕ) → ((c : ℕ) → c < L .cells → L .solid c ≡ true) → labels ≡ tab (L .cells) (labelOf L) → Labelled L labels

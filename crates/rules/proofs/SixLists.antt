@@ -2,17 +2,19 @@
 -- Assumes nothing.
 use mathlib.Core.Bool.{true}
 use mathlib.Core.List.{List}
-use mathlib.Core.Path.{ap, refl, _∙_, _≡_}
+use mathlib.Core.Path.{ap, refl, sym, _∙_, _≡_}
 use Prim.Native.Nat.{ℕ, _<_, _≤_}
+use native.Mathlib.Nat.{le-of-eq}
 use native.Mathlib.Omega.{arith}
 use lib.ListN.{length, length-map, length-take, take}
-use Rattle.lists.proofs.Overwrite.{overwrite-take}
+use lib.Seq.{take-all}
+use Rattle.lists.proofs.Overwrite.{overwrite-again, overwrite-take}
 use Rattle.lists.proofs.Tab.{tab-length}
 use Rattle.rules.proofs.WholeOrders.{order-whole}
 use Rattle.rules.specs.FirstWays.{basin}
 use Rattle.rules.specs.Ground.{dropped}
 use Rattle.rules.specs.Land.{Land}
-use Rattle.rules.specs.Network.{drainage, dropLevels, level, liftedNetwork, Network, wet}
+use Rattle.rules.specs.Network.{drainage, dropLevels, level, liftedNetwork, Network, networkOf, wet}
 use Rattle.rules.specs.SixLists.{firstOf, Full, Holds, onto, shortest}
 use Rattle.rules.specs.Way.{Drains}
 
@@ -52,6 +54,28 @@ module _ {Level : Type 0} where
       (overwrite-take (new .drainage) (old .drainage) n (F .drainage-full) refl)
       (overwrite-take (new .wet) (old .wet) n (F .wet-full) refl)
 
+  -- and of six lists of n entries: they themselves
+  pub firstOf-whole : (n : ℕ) (s : Network Level) → Full n s → firstOf n s ≡ s
+  firstOf-whole n s F =
+      sixLists-same
+      (take-all n (s .receivers) (le-of-eq (F .receivers-full)))
+      (take-all n (s .basins) (le-of-eq (F .basins-full)))
+      (take-all n (s .order) (le-of-eq (F .order-full)))
+      (take-all n (s .levels) (le-of-eq (F .levels-full)))
+      (take-all n (s .drainage) (le-of-eq (F .drainage-full)))
+      (take-all n (s .wet) (le-of-eq (F .wet-full)))
+
+  -- a network over another of as many cells
+  pub onto-again : (n : ℕ) (new mid old : Network Level) → Full n new → Full n mid → onto new (onto mid old) ≡ onto new old
+  onto-again n new mid old F G =
+      sixLists-same
+      (overwrite-again (new .receivers) (mid .receivers) (old .receivers) (G .receivers-full ∙ sym (F .receivers-full)))
+      (overwrite-again (new .basins) (mid .basins) (old .basins) (G .basins-full ∙ sym (F .basins-full)))
+      (overwrite-again (new .order) (mid .order) (old .order) (G .order-full ∙ sym (F .order-full)))
+      (overwrite-again (new .levels) (mid .levels) (old .levels) (G .levels-full ∙ sym (F .levels-full)))
+      (overwrite-again (new .drainage) (mid .drainage) (old .drainage) (G .drainage-full ∙ sym (F .drainage-full)))
+      (overwrite-again (new .wet) (mid .wet) (old .wet) (G .wet-full ∙ sym (F .wet-full)))
+
   -- six lists are at least as long as their first entries
   pub firstOf-holds : {net : Network Level} (n : ℕ) (s : Network Level) → firstOf n s ≡ net → Full n net → Holds n s
   firstOf-holds n s e F =
@@ -89,3 +113,8 @@ dropLevels-full {n} {s} F =
       drainage-full = F .drainage-full;
       wet-full = F .wet-full;
     }
+
+-- so the network too, with its levels dropped
+pub networkOf-full : (L : Land) (water r : List ℕ) → Drains L r → ((c : ℕ) → c < L .cells → L .solid c ≡ true) → Full (L .cells) (networkOf L water r)
+unfolding networkOf
+networkOf-full L water r D whole = dropLevels-full (liftedNetwork-full L water r D whole)

@@ -7,12 +7,18 @@ use native.Mathlib.Nat.{pow-suc, suc-add, zero-add}
 use native.Mathlib.Omega.{arith}
 use lib.ListN.{getD, length}
 use lib.Seq.{drop-cons}
+use Rattle.lists.proofs.Below.{below-cons}
 use Rattle.lists.specs.Lists.{Below, stretch}
 use Rattle.sections.specs.LittleEndian.{bytesOf, numberAt}
 
 pub length-bytesOf : (w x : ℕ) → length (bytesOf w x) ≡ w
 length-bytesOf zero x = refl
 length-bytesOf (suc w) x = ap suc (length-bytesOf w (x / 256))
+
+-- they are bytes
+pub bytesOf-below : (w x : ℕ) → Below 256 (bytesOf w x)
+bytesOf-below zero x = λ k l. absurd (omega arith)
+bytesOf-below (suc w) x = below-cons 256 (x % 256) (bytesOf w (x / 256)) (omega arith) (bytesOf-below w (x / 256))
 
 numberAt-cons : (w b : ℕ) (s : List ℕ) (from : ℕ) → numberAt w (b ∷ s) (suc from) ≡ numberAt w s from
 numberAt-cons zero b s from = refl

@@ -8,15 +8,20 @@ use native.Mathlib.Numerals.{add-one}
 use native.Mathlib.Omega.{arith}
 use lib.ListN.{length, length-append, take}
 use lib.Seq.{drop-drop, drop-length, length-take-le, take-add, take-length, take-suc}
+use Rattle.lists.proofs.Below.{below-append}
 use Rattle.lists.proofs.Stored.{stored-next}
 use Rattle.lists.proofs.Tab.{tab-is, tab-suc}
 use Rattle.lists.specs.Lists.{at, Below, stored, stretch}
-use Rattle.sections.proofs.Numbers.{bytesOf-numberAt, length-bytesOf, numberAt-bytesOf, numberAt-skip}
+use Rattle.sections.proofs.Numbers.{bytesOf-below, bytesOf-numberAt, length-bytesOf, numberAt-bytesOf, numberAt-skip}
 use Rattle.sections.specs.LittleEndian.{bytesOf, numberAt, numbersAt, sectionFilled, sectionOf}
 
 pub length-sectionOf : (w : ℕ) (xs : List ℕ) → length (sectionOf w xs) ≡ w * length xs
 length-sectionOf w [] = sym (mul-zero w)
 length-sectionOf w (x ∷ xs) = rw (length-append, length-bytesOf, length-sectionOf w xs, mul-suc) (omega arith)
+
+pub sectionOf-below : (w : ℕ) (xs : List ℕ) → Below 256 (sectionOf w xs)
+sectionOf-below w [] = λ k l. absurd (omega arith)
+sectionOf-below w (x ∷ xs) = below-append 256 (bytesOf w x) (sectionOf w xs) (bytesOf-below w x) (sectionOf-below w xs)
 
 sectionOf-append : (w : ℕ) (xs ys : List ℕ) → sectionOf w (xs ++ ys) ≡ sectionOf w xs ++ sectionOf w ys
 sectionOf-append w [] ys = refl

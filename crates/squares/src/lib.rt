@@ -11,6 +11,7 @@ ghost use Rattle.lists.specs.Stores.{Packs, Puts};
 ghost use Rattle.rules.specs.Land.{rule4};
 ghost use Rattle.squares.specs.Listing.{Listable, Listed};
 ghost use Rattle.squares.specs.Squares.{Ends, flag, greatestSide, Keyable, keptBy, margined, pairsOf, sideKey, squareAt};
+use kinds::Basin;
 use lists::most_u32;
 
 // One of a cell's pairs: with the cell `on` places further. It is side `here` of the square that begins at the cell, and side `there` of
@@ -24,12 +25,12 @@ struct Side {
 }
 
 // The key of a side: 0 where its two cells have one label.
-fn key(la: u16, lb: u16, ha: u32, hb: u32, side: u32) -> u32
+fn key(la: Basin, lb: Basin, ha: u32, hb: u32, side: u32) -> u32
     requires { ⌜ (ha ≤ 16000000) × (hb ≤ 16000000) × (side < 4) ⌝ }
-    ensures { λ r. ⌜ r ≡ sideKey la lb ha hb side ⌝ }
+    ensures { λ r. ⌜ r ≡ sideKey (la .0) (lb .0) ha hb side ⌝ }
 {
     let k = 4 * most_u32(ha, hb) + side;
-    if la == lb { 0 } else { k }
+    if la.0 == lb.0 { 0 } else { k }
 }
 
 // The greater of two keys.
@@ -48,10 +49,10 @@ fn square(w: usize, heights: &[u32], labels: &[u16], c: usize) -> u8
     let hb = heights[c + 1];
     let hd = heights[c + w];
     let he = heights[c + w + 1];
-    let la = labels[c];
-    let lb = labels[c + 1];
-    let ld = labels[c + w];
-    let le = labels[c + w + 1];
+    let la = Basin(labels[c]);
+    let lb = Basin(labels[c + 1]);
+    let ld = Basin(labels[c + w]);
+    let le = Basin(labels[c + w + 1]);
     let top = key(la, lb, ha, hb, 0);
     let left = key(la, ld, ha, hd, 1);
     let right = key(lb, le, hb, he, 2);
@@ -124,15 +125,15 @@ fn one_if(a: u8, b: u8) -> u8
 }
 
 // The same of two labels.
-fn one_if_same(a: u16, b: u16) -> u8
-    ensures { λ r. ⌜ r ≡ cond (eqb a b) 1 0 ⌝ }
+fn one_if_same(a: Basin, b: Basin) -> u8
+    ensures { λ r. ⌜ r ≡ cond (eqb (a .0) (b .0)) 1 0 ⌝ }
 {
-    if a == b { 1 } else { 0 }
+    if a.0 == b.0 { 1 } else { 0 }
 }
 
 // The bit of a pair that is kept: its labels differ, and it is the greatest of neither square.
-fn kept(a: u16, b: u16, s: u8, x: u8, t: u8, y: u8, bit: u8) -> u8
-    ensures { λ r. ⌜ r ≡ cond (keptBy a b s x t y) bit 0 ⌝ }
+fn kept(a: Basin, b: Basin, s: u8, x: u8, t: u8, y: u8, bit: u8) -> u8
+    ensures { λ r. ⌜ r ≡ cond (keptBy (a .0) (b .0) s x t y) bit 0 ⌝ }
 {
     let out = one_if_same(a, b) + one_if(s, x) + one_if(t, y);
     if out == 0 { bit } else { 0 }
@@ -155,8 +156,8 @@ fn add_flags(side: Side, n: usize, labels: &[u16], sq: &[u8], flags: &mut [u8])
     while c + on < n {
         flags[c] = flags[c]
             + kept(
-                labels[c],
-                labels[c + on],
+                Basin(labels[c]),
+                Basin(labels[c + on]),
                 sq[c + 64],
                 side.here,
                 sq[c + 64 - back],

@@ -7,9 +7,9 @@ use Prim.Native.Nat.{ℕ, _≤_}
 use lib.ListN.{length}
 use Rattle.grid.specs.Masks.{joined, Masks}
 use Rattle.grid.specs.Window.{IsRule}
-use Rattle.lists.specs.Lists.{tab}
+use Rattle.lists.specs.Lists.{filled, tab}
 use Rattle.rules.specs.Carving.{receivers}
-use Rattle.rules.specs.FirstWays.{firstReceiver}
+use Rattle.rules.specs.FirstWays.{basin, firstReceiver}
 use Rattle.rules.specs.Land.{Rule}
 use Rattle.rules.specs.NodeLabels.{labelOf}
 use Rattle.rules.specs.Tile.{Tile, tileLand}
@@ -33,3 +33,8 @@ pub record Linkable (R : Rule) (w : ℕ) (heights marks labels links : List ℕ)
 -- what linking the cells leaves and the walk asks: the links of the network, with a margin on both sides of them
 abbrev pub Linked : Rule → (w : ℕ) (heights marks links : List ℕ) → Type 0
 Linked R w heights marks links = Margin R w heights marks links (receivers (tileLand R w heights marks))
+
+-- and the basins at the start of the list that was lent for them
+pub record CellsLinked (R : Rule) (w : ℕ) (heights marks before basins links : List ℕ) : Type 0 where
+  pub basins-are : basins ≡ filled (basin (tileLand R w heights marks)) (length heights) before
+  pub links-are : Linked R w heights marks links

@@ -14,7 +14,7 @@ ghost use Rattle.rules.specs.Links.{Linkage};
 ghost use Rattle.rules.specs.Network.{liftedNetwork};
 ghost use Rattle.rules.specs.SixLists.{Holds, onto, sixLists};
 ghost use Rattle.rules.specs.Tile.{Tile, tileLand};
-ghost use Rattle.stages.specs.Linking.{LawfulTile, Linkable, Linked};
+ghost use Rattle.stages.specs.Linking.{CellsLinked, LawfulTile, Linkable};
 use basins::basin_numbers;
 use drainage::drain;
 use first_receivers::first_receivers;
@@ -83,10 +83,8 @@ pub fn link_cells(w: usize, heights: &[u32], marks: &[u8], basins: &mut [u16], l
     requires { ⌜ LawfulTile rule4 w (now heights) (now marks) ⌝ }
     requires { ⌜ (length (now heights) ≤ length (now basins)) × (length (now links) ≡ 4224) ⌝ }
     ensures { λ _. ⌜
-        now (basins .exit)
-        ≡ filled (basin (tileLand rule4 w (now (heights .entry)) (now (marks .entry)))) (length (now (heights .entry))) (now (basins .entry))
+        CellsLinked rule4 w (now (heights .entry)) (now (marks .entry)) (now (basins .entry)) (now (basins .exit)) (now (links .exit))
         ⌝ }
-    ensures { λ _. ⌜ Linked rule4 w (now (heights .entry)) (now (marks .entry)) (now (links .exit)) ⌝ }
 {
     find_links(w, heights, marks, basins, &mut links[64..4160]);
 }

@@ -15,7 +15,7 @@ use Rattle.rules.specs.Ground.{dropped}
 use Rattle.text.proofs.Digits.{length-decimal}
 use Rattle.text.proofs.Lines.{cellLines-first, cellLines-lifted, cellLines-none, length-cellLine, length-pairLine, length-refusedText, length-sizeLine}
 use Rattle.text.proofs.Lines.{length-sumsLine, level-above, level-below}
-use Rattle.text.proofs.Sums.{outletDrainage-first, outletDrainage-most, sum-most}
+use Rattle.text.proofs.Sums.{outletDrainage-first, outletDrainage-most, sum-take-most}
 use Rattle.text.specs.Text.{cellLine, cellLines, outletDrainage, pairLine, refusedText, signedDecimal, sizeLine, sumsLine, tileText}
 use Rattle.text.specs.Writing.{mostText, Printable}
 
@@ -79,7 +79,7 @@ module _ (w h n : ℕ) (r l d m water text : List ℕ) (P : Printable w h n r l 
   sums-fit =
       let f : n ≤ 4096 = few-cells in
       let s : outletDrainage d m n ≤ 4294967295 * n = outletDrainage-most d m n (E .drainage-32) in
-      let t : sum (take n water) ≤ 65535 * n = sum-most water n (P .water-holds) (E .water-16) in
+      let t : sum (take n water) ≤ 65535 * n = sum-take-most water n (P .water-holds) (E .water-16) in
       let a = length-decimal 13 (outletDrainage d m n) (omega arith) in
       let b = length-decimal 8 (sum (take n water)) (omega arith) in
       omega (arith, length-sumsLine (outletDrainage d m n) (sum (take n water)))

@@ -9,10 +9,10 @@ use native.Mathlib.Numerals.{add-one}
 use native.Mathlib.Omega.{arith}
 use lib.Dec.{eqb}
 use lib.ListN.{length, take}
-use lib.Seq.{getD-take, take-suc}
+use lib.Seq.{getD-take, length-take-le, take-suc}
 use Rattle.lists.proofs.Keep.{keep-append}
 use Rattle.lists.proofs.Range.{range-split}
-use Rattle.lists.proofs.Sum.{sum-append}
+use Rattle.lists.proofs.Sum.{sum-append, sum-most-at}
 use Rattle.lists.specs.Lists.{at, keep, sum, upto}
 use Rattle.text.specs.Text.{outletDrainage}
 
@@ -67,10 +67,15 @@ outletDrainage-most drainage marks (suc n) h =
     share true l = l
     share false l = omega arith
 
-pub sum-most : (l : List ℕ) (n : ℕ) → n ≤ length l → ((c : ℕ) → at l c < 65536) → sum (take n l) ≤ 65535 * n
-sum-most l zero k h = omega arith
-sum-most l (suc n) k h =
-    rw (← add-one n, sum-next l n (omega arith))
-    (let a : at l n < 65536 = h n in
-    let b : sum (take n l) ≤ 65535 * n = sum-most l n (omega arith) h in
-    omega arith)
+-- entries of 16 bits
+pub sum-take-most : (l : List ℕ) (n : ℕ) → n ≤ length l → ((c : ℕ) → at l c < 65536) → sum (take n l) ≤ 65535 * n
+sum-take-most l n k h =
+    let e : length (take n l) ≡ n = length-take-le n l k in
+    let s : sum (take n l) ≤ 65535 * length (take n l) = sum-most-at 65535 (take n l) small in
+    omega arith
+  where
+    small : (i : ℕ) → i < length (take n l) → at (take n l) i ≤ 65535
+    small i j =
+        let e : length (take n l) ≡ n = length-take-le n l k in
+        let a : at l i < 65536 = h i in
+        rw (getD-take n l i 0 (omega arith)) (omega arith)

@@ -1,4 +1,4 @@
--- The contract fixes the call's answer; and on a list of receivers that drains, the answer is the outlet.
+-- The contract fixes the call's answer: on a list of receivers that drains it is the outlet, and on one that runs in a ring it is stopped.
 -- Assumes nothing.
 use mathlib.Core.Bool.{cond, true}
 use mathlib.Core.List.{List}
@@ -6,17 +6,22 @@ use mathlib.Core.Path.{ap, refl, sym, _∙_, _≡_}
 use Prim.Native.Nat.{ℕ, _<_, _≤_}
 use native.Mathlib.Omega.{arith}
 use lib.Dec.{eqb}
-use lib.ListN.{length}
+use lib.IntN.{ℤ}
+use lib.ListN.{length, take}
 use Rattle.kinds.specs.Kinds.{asCell}
-use Rattle.lists.specs.Lists.{at}
+use Rattle.lists.specs.Lists.{at, repeat}
 use Rattle.rules.proofs.Demand3Holds.{ends-at-outlet}
 use Rattle.rules.proofs.Draining.{receivers-drain}
 use Rattle.rules.proofs.Steps.{few-steps}
+use Rattle.rules.proofs.TraceRings.{ring-stopped}
 use Rattle.rules.proofs.Traces.{trace-reaches, trace-same}
 use Rattle.rules.specs.Carving.{receivers}
 use Rattle.rules.specs.Demand3.{innerCells}
-use Rattle.rules.specs.Land.{Land}
-use Rattle.rules.specs.Trace.{reached, refused, stopped, trace, Traced}
+use Rattle.rules.specs.Ground.{cellsOf, Ground}
+use Rattle.rules.specs.Land.{Land, land4}
+use Rattle.rules.specs.Left.{LeftDemand3}
+use Rattle.rules.specs.Network.{Network}
+use Rattle.rules.specs.Trace.{reached, refused, RunsInRing, stopped, trace, Traced}
 use Rattle.rules.specs.Way.{Drains, Lawful}
 use Rattle.trace.specs.Answer.{answerOf, AtOutlet}
 use Rattle.trace.specs.declared.TraceAnswer.{TraceAnswer}
@@ -62,4 +67,23 @@ module _ (L : Land) (r : List ℕ) (D : Drains L r) (small : L .cells ≤ 4096) 
 pub network-answers-outlet : (L : Land) → Lawful L → L .cells ≤ 4096 → (c : ℕ) → c < L .cells → L .solid c ≡ true
     → (budget : ℕ) → length (innerCells L) ≤ budget → (a : TraceAnswer) → answerOf a ≡ trace (receivers L) c budget
     → AtOutlet L (receivers L) c a
-network-answers-outlet L W small = answers-outlet L (receivers L) (receivers-drain L W (omega arith)) small
+network-answers-outlet L W small = answers-outlet L (receivers L) (receivers-drain L W (λ d t. omega arith)) small
+
+-- and so are the receivers of six lists that have demand 3, wherever they stand
+module _ (g : Ground) (s : Network ℤ) (D : LeftDemand3 g s) (few : cellsOf g ≤ 4096) (c : ℕ) (h : c < cellsOf g) where
+  abbrev left : List ℕ
+  left = take (cellsOf g) (s .receivers)
+
+  pub left-answers-outlet : (budget : ℕ) → length (innerCells (land4 g)) ≤ budget → (a : TraceAnswer) → answerOf a ≡ trace left c budget
+      → AtOutlet (land4 g) left c a
+  left-answers-outlet = answers-outlet (land4 g) left (D .drains) few c h refl
+
+  pub left-larger-budget : (budget larger : ℕ) → length (innerCells (land4 g)) ≤ budget → length (innerCells (land4 g)) ≤ larger
+      → (a b : TraceAnswer) → answerOf a ≡ trace left c budget → answerOf b ≡ trace left c larger → a ≡ b
+  left-larger-budget = larger-budget (land4 g) left (D .drains) few c h refl
+
+-- on a list that runs in a ring the call answers stopped, at the cell that the budget leads to, and the steps are the whole budget
+pub ring-answers-stopped : (r : List ℕ) (c : ℕ) → RunsInRing r c → length r ≤ 4096 → c < length r
+    → (budget : ℕ) (a : TraceAnswer) → answerOf a ≡ trace r c budget → a ≡ Stopped (asCell (repeat budget (at r) c)) budget
+unfolding answerFor
+ring-answers-stopped r c R few h budget a e = sym (said a) ∙ ap answerFor (e ∙ ring-stopped r c R few h budget)

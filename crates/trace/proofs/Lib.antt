@@ -1,4 +1,4 @@
-pub mod Steps
 pub mod Ring
 pub mod Answers
 pub mod Forbidden
+pub mod OneOutcome

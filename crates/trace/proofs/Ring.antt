@@ -14,12 +14,13 @@ use Rattle.lists.proofs.Find.{find-found, find-left, find-none}
 use Rattle.lists.proofs.Map.{map-member}
 use Rattle.lists.proofs.Once.{once-le, once-map, once-range}
 use Rattle.lists.proofs.Range.{range-length, upto-below, upto-holds}
-use Rattle.lists.proofs.Repeat.{repeat-add, repeat-last}
+use Rattle.lists.proofs.Repeat.{repeat-add, repeat-last, repeat-round}
 use Rattle.lists.proofs.Tests.{eq, gt, lt, lt-or-ge, Three, three}
 use Rattle.lists.specs.Find.{find, NoneBelow}
 use Rattle.lists.specs.Lists.{at, Once, repeat, upto, _∈_}
-use Rattle.rules.specs.Trace.{stopped, traceFrom}
-use Rattle.trace.proofs.Steps.{Onward, traceFrom-endless, traceFrom-stopped}
+use Rattle.rules.proofs.TraceRings.{ring-endless}
+use Rattle.rules.proofs.TraceSteps.{Onward, trace-allowed, traceFrom-endless, traceFrom-stopped}
+use Rattle.rules.specs.Trace.{RunsInRing, stopped, trace, traceFrom}
 use Rattle.trace.specs.Ring.{backAfter, OnRing, ringLength}
 
 -- f takes n + 1 numbers to numbers below n, so it takes two of them to one
@@ -100,38 +101,23 @@ module _ (r : List ℕ) (c : ℕ) (h : c < length r) (goes : (j : ℕ) → j ≤
   round : ℕ
   round = met-twice .1 - met-twice .0
 
-  -- from the first of the two on, a round later is the same cell
-  again : (m : ℕ) → met-twice .0 ≤ m → after (m + round) ≡ after m
-  unfolding after round
-  again m l =
-      let i = met-twice .0 in
-      let j = met-twice .1 in
-      let a : i < j = met-twice .2 in
-      let e : m + (j - i) ≡ j + (m - i) = omega arith in
-      let f : i + (m - i) ≡ m = omega arith in
-      ap after e
-      ∙ repeat-add (at r) j (m - i) c
-      ∙ ap (repeat (m - i) (at r)) (sym (met-twice .4))
-      ∙ sym (repeat-add (at r) i (m - i) c)
-      ∙ ap after f
-
-  -- so it goes on for good: past the list's length, a round earlier was the same cell
-  goes-on : (b j : ℕ) → j ≤ b → Onward r (after j)
-  unfolding after round
-  goes-on zero j l = goes j (omega arith)
-  goes-on (suc b) j l = go (lt-or-ge (length r) j) (goes-on b (j - round))
-    where
-      go : (length r < j) ⊎ (j ≤ length r) → (j - round ≤ b → Onward r (after (j - round))) → Onward r (after j)
-      go (inl k) ih =
-          let a : met-twice .0 < met-twice .1 = met-twice .2 in
-          let d : met-twice .1 ≤ length r = met-twice .3 in
-          let e : j - round + round ≡ j = omega arith in
-          subst (Onward r) (sym (again (j - round) (omega arith)) ∙ ap after e) (ih (omega arith))
-      go (inr k) ih = goes j k
-
-  pub endless : (j : ℕ) → Onward r (repeat j (at r) c)
+  -- so the list runs in a ring
+  runs-in-ring : RunsInRing r c
   unfolding after
-  endless j = goes-on j j (omega arith)
+  runs-in-ring =
+      record {
+        first = met-twice .0;
+        again = met-twice .1;
+        later = met-twice .2;
+        met-again = met-twice .4;
+        no-outlet = let a : met-twice .0 < met-twice .1 = met-twice .2 in let b : met-twice .1 ≤ length r = met-twice .3 in
+            goes (met-twice .0) (omega arith) .moves;
+        on-list = λ k l. let b : met-twice .1 ≤ length r = met-twice .3 in goes k (omega arith) .inside;
+      }
+
+  -- and it goes on for good
+  pub endless : (j : ℕ) → Onward r (repeat j (at r) c)
+  endless = ring-endless r c runs-in-ring
 
   -- on cells of the list only
   stays : (j : ℕ) → after j < length r
@@ -150,7 +136,9 @@ module _ (r : List ℕ) (c : ℕ) (h : c < length r) (goes : (j : ℕ) → j ≤
       let b : met-twice .1 ≤ length r = met-twice .3 in
       let e : suc (round - 1) ≡ round = omega arith in
       eq-eqb (repeat (suc (round - 1)) (at r) home) home
-      (ap (λ (k : ℕ). repeat k (at r) home) e ∙ sym (repeat-add (at r) (length r) round c) ∙ again (length r) (omega arith))
+      (ap (λ (k : ℕ). repeat k (at r) home) e
+      ∙ sym (repeat-add (at r) (length r) round c)
+      ∙ repeat-round (at r) (met-twice .0) (met-twice .1) c a (met-twice .4) (length r) (omega arith))
 
   ring-back : length r ≤ 4096 → OnRing r (repeat (length r) (at r) c)
   unfolding after home round
@@ -201,3 +189,10 @@ module _ (r : List ℕ) (c : ℕ) {d t : ℕ} (h : c < length r) (e : traceFrom 
       q ∙ ap (repeat (budget - length r) (at r)) (w .0) ∙ sym (repeat-add (at r) (length r) (budget - length r) c)
       ∙ ap (λ (k : ℕ). repeat k (at r) c) n in
       sym (traceFrom-endless r budget 0 c (endless r c h (w .1)) ∙ rw (zero-add budget, ← s))
+
+-- only a ring stops a budget of as many steps as the list has entries, or more
+pub stopped-in-ring : (r : List ℕ) (c budget : ℕ) {d t : ℕ} → length r ≤ 4096 → c < length r → length r ≤ budget
+    → trace r c budget ≡ stopped d t → RunsInRing r c
+stopped-in-ring r c budget few h l e =
+    let w = traceFrom-stopped r budget 0 c (sym (trace-allowed r c budget few h) ∙ e) in
+    runs-in-ring r c h (λ j k. w .1 j (omega arith))

@@ -8,3 +8,4 @@ pub mod Tops
 pub mod Settled
 pub mod Turns
 pub mod Wholes
+pub mod OneOutcome

@@ -9,6 +9,7 @@ use Rattle.lists.specs.Stores.{Noted}
 use Rattle.rules.specs.Land.{Land, Rule}
 use Rattle.rules.specs.Links.{Linkage}
 use Rattle.rules.specs.Network.{level, order, wet}
+use Rattle.rules.specs.Tile.{tileLand}
 
 -- the five lent lists: the walk fills four, and the stack is its work space
 pub record Lent : Type 0 where
@@ -42,6 +43,11 @@ pub record Walked (L : Land) (r : List ℕ) (s s′ : Lent) : Type 0 where
   pub levels-are : s′ .levels ≡ filled (level L r) (L .cells) (s .levels)
   pub wets-are : Noted (wet L r) (order L r) (s .wets) (s′ .wets)
   pub past : drop (L .cells) (s′ .stack) ≡ drop (L .cells) (s .stack)
+
+-- what `walk_links` promises, of whatever receivers the links are
+abbrev pub LinksWalked : Rule → (w : ℕ) (heights marks links : List ℕ) (before after : Lent) → Type 0
+LinksWalked R w heights marks links before after =
+    (r : List ℕ) → Margin R w heights marks links r → Walked (tileLand R w heights marks) r before after
 
 -- what that is where no cell is a hole: every cell stands in the order
 pub record WalkedWhole (L : Land) (r : List ℕ) (s s′ : Lent) : Type 0 where

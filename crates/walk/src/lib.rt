@@ -13,7 +13,7 @@ ghost use Rattle.rules.specs.Ground.{isOutlet};
 ghost use Rattle.rules.specs.Land.{rule4};
 ghost use Rattle.rules.specs.Tile.{tileLand};
 ghost use Rattle.walk.specs.Climb.{cellIn, cellUnit, kept, maskIn, ones, outletEntry, pushes, Ready, receiverIn, shifted, wetNow};
-ghost use Rattle.walk.specs.Walk.{lent, Margin, LentHolds, Walked};
+ghost use Rattle.walk.specs.Walk.{lent, LentHolds, LinksWalked, Margin, Walked};
 use kinds::Cell;
 use kinds::Place;
 use lists::most_u32;
@@ -255,12 +255,10 @@ pub fn walk_links(
 )
     requires { ⌜ ((r : List ℕ) × Margin rule4 w (now heights) (now marks) (now links) r) ⌝ }
     requires { ⌜ LentHolds (length (now heights)) (lent (now stack) (now order) (now receivers) (now levels) (now wets)) ⌝ }
-    ensures { λ _. ⌜
-        ((r : List ℕ) → Margin rule4 w (now (heights .entry)) (now (marks .entry)) (now (links .entry)) r
-        → Walked (tileLand rule4 w (now (heights .entry)) (now (marks .entry))) r
-        (lent (now (stack .entry)) (now (order .entry)) (now (receivers .entry)) (now (levels .entry)) (now (wets .entry)))
-        (lent (now (stack .exit)) (now (order .exit)) (now (receivers .exit)) (now (levels .exit)) (now (wets .exit))))
-        ⌝ }
+    ensures { λ _.
+        let before = lent (now (stack .entry)) (now (order .entry)) (now (receivers .entry)) (now (levels .entry)) (now (wets .entry)) in
+        let after = lent (now (stack .exit)) (now (order .exit)) (now (receivers .exit)) (now (levels .exit)) (now (wets .exit)) in
+        ⌜ LinksWalked rule4 w (now (heights .entry)) (now (marks .entry)) (now (links .entry)) before after ⌝ }
 {
     note_heights(heights, levels);
     let top = push_outlets(marks, links, stack);

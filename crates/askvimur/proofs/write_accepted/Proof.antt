@@ -17,8 +17,8 @@ write-linked-requires c κs =
     let g = groundIn (st .args .bytes .now) (st .args .width) (st .args .height) in
     let linked = at-links .link-record .ensures in
     let full = network-full g (st .pre .0 .good) .basins-full in
-    let basins = overwrite-take (liftedNetworkOf g .basins) (replicate 4096 0) (cellsOf g) full (linked .1) in
-    (st .pre .0, ((linked .0, st .pre .1), basins))
+    let basins = overwrite-take (liftedNetworkOf g .basins) (replicate 4096 0) (cellsOf g) full (linked .basins-are) in
+    (st .pre .0, ((linked .linked, st .pre .1), basins))
 
 pub write-accepted-spec : {M : Type 1} → statement M
 write-accepted-spec =

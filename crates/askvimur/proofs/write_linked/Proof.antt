@@ -5,7 +5,7 @@ use mathlib.Core.Path.{_≡_}
 use Prim.Native.Nat.{ℕ}
 use lib.ListN.{replicate}
 use borrow.Author.Needs.{needs}
-use Rattle.askvimur.proofs.Answers.{record-written, writable}
+use Rattle.askvimur.proofs.Writing.{record-written, writable}
 use Rattle.ground.specs.Record.{groundIn}
 use Rattle.network.proofs.Networks.{network-full}
 use Rattle.lists.proofs.Overwrite.{overwrite-take}
@@ -36,12 +36,12 @@ network-here c =
     let zeros : List ℕ = replicate 4096 0 in
     let e = c .walk-record .ensures in
     sixLists-same
-    (overwrite-take (net .receivers) zeros n (F .receivers-full) (e .0))
+    (overwrite-take (net .receivers) zeros n (F .receivers-full) (e .receivers-are))
     (start c .pre .1 .1)
-    (overwrite-take (net .order) zeros n (F .order-full) (e .1 .0))
-    (overwrite-take (net .levels) zeros n (F .levels-full) (e .1 .1 .0))
-    (overwrite-take (net .drainage) zeros n (F .drainage-full) (e .1 .1 .1 .0))
-    (overwrite-take (net .wet) zeros n (F .wet-full) (e .1 .1 .1 .1))
+    (overwrite-take (net .order) zeros n (F .order-full) (e .order-is))
+    (overwrite-take (net .levels) zeros n (F .levels-full) (e .levels-are))
+    (overwrite-take (net .drainage) zeros n (F .drainage-full) (e .drainage-is))
+    (overwrite-take (net .wet) zeros n (F .wet-full) (e .wets-are))
 
 walk-record-requires : tie.Need-walk-record-requires
 walk-record-requires c κs =

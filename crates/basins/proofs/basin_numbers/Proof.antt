@@ -45,12 +45,13 @@ returns c =
     let zeros : List ℕ = replicate 4096 0 in
     let counts = at-counts .number-basins in
     let cells = at-cells .singular-cells in
-    let found = at-found .look-up in (
-      λ L F. numbered L n entries F (counts .last .1 .1 .0) (cells .last .0) (found .last .1 .1 .1 .0) zeros (counts .ensures) (cells .ensures L F)
-          (found .ensures .0),
-      λ L F M. labelled L n entries F (st .args .marks .now) (counts .last .1 .1 .0) (cells .last .0) (found .last .1 .1 .1 .1 .0) zeros
-          (st .args .labels .now) M (counts .ensures) (cells .ensures L F) (found .ensures .1),
-    )
+    let found = at-found .look-up in
+    record {
+      numbers-are = λ L F. numbered L n entries F (counts .last .1 .1 .0) (cells .last .0) (found .last .1 .1 .1 .0) zeros (counts .ensures)
+          (cells .ensures L F) (found .ensures .0);
+      labels-are = λ L F. labelled L n entries F (st .args .marks .now) (counts .last .1 .1 .0) (cells .last .0) (found .last .1 .1 .1 .1 .0) zeros
+          (st .args .labels .now) (counts .ensures) (cells .ensures L F) (found .ensures .1);
+    }
 
 pub basin-numbers-spec : {M : Type 1} → statement M
 basin-numbers-spec =

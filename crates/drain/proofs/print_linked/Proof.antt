@@ -28,9 +28,9 @@ print-lists-requires c κs =
     let F = network-full g (st .pre .0 .good) in
     let zeros : List ℕ = replicate 4096 0 in
     let e = at-walk .walk-record .ensures in
-    let receivers = overwrite-take (net .receivers) zeros n (F .receivers-full) (e .0) in
-    let levels = overwrite-take (net .levels) zeros n (F .levels-full) (e .1 .1 .0) in
-    let drainage = overwrite-take (net .drainage) zeros n (F .drainage-full) (e .1 .1 .1 .0) in
+    let receivers = overwrite-take (net .receivers) zeros n (F .receivers-full) (e .receivers-are) in
+    let levels = overwrite-take (net .levels) zeros n (F .levels-full) (e .levels-are) in
+    let drainage = overwrite-take (net .drainage) zeros n (F .drainage-full) (e .drainage-is) in
     (st .pre .0, ((receivers, levels, drainage), st .pre .1 .1))
 
 pub print-linked-spec : {M : Type 1} → statement M

@@ -48,7 +48,7 @@ loop-again c =
     let i = lp .loop .inv in
     let x = lp .loop .c in (
       search needs,
-      length-set (lp .loop .out) x (c .led-to .result) ∙ i .1,
+      length-set (lp .loop .out) x (c .led-to .result .0) ∙ i .1,
       λ heights marks W.
           let first = firstReceiver (tileLand rule4 (a .w) heights marks) in
           let t = c .before .before .loop-test .taken in

@@ -5,7 +5,9 @@ use Rattle.network_impostors.proofs.draw.Statement.{statement}
 use Rattle.network_impostors.proofs.draw.Tie as tie
 
 returns : tie.Need-returns
-returns c = c .before .before .before .before .before .before .before .before .before .before .before .network .ensures
+returns c =
+    let call = c .before .before .before .before .before .before .before .before .before .before .before in
+    record { answer = call .network .ensures .answer; lists = call .network .ensures .lists }
 
 pub draw-spec : {M : Type 1} → statement M
 draw-spec =

@@ -59,12 +59,13 @@ returns c =
     let ks = s .kept .1 .1 .0 in
     let kp = p .kept .1 .1 .0 in
     let C₀ = st .pre .1 in
-    let P₀ = pickable holeless4 C₀ (l .ensures) kl (s .ensures) ks in (
-      chosen-room holeless4 C₀ (l .ensures) kl (s .ensures) ks (p .ensures (land (st .pre .0)) P₀) kp,
-      λ marks C.
+    let P₀ = pickable holeless4 C₀ (l .ensures) kl (s .ensures) ks in
+    record {
+      within = chosen-room holeless4 C₀ (l .ensures) kl (s .ensures) ks (p .ensures (land (st .pre .0)) P₀) kp;
+      pairs = λ marks C.
           let P = pickable holeless4 C (l .ensures) kl (s .ensures) ks in
-          chosen-pairs holeless4 C (l .ensures) kl (s .ensures) ks (p .ensures (land marks) P) kp,
-    )
+          chosen-pairs holeless4 C (l .ensures) kl (s .ensures) ks (p .ensures (land marks) P) kp;
+    }
 
 pub choose-pairs-spec : {M : Type 1} → statement M
 choose-pairs-spec =

@@ -76,10 +76,12 @@ returns c =
     let G = st .pre .0 .good in
     let n = count at-lift in
     let z = counted at-lift in
-    let t = heights-read at-lift in (
-      linked-record s (a .width) (a .height) G n z (heights at-lift) t (at-links .link-cells .ensures .1),
-      read-basins s (a .width) (a .height) G n z (heights at-lift) t (a .basins .now) (at-links .link-cells .ensures .0),
-    )
+    let t = heights-read at-lift in
+    let found = at-links .link-cells .ensures in
+    record {
+      linked = linked-record s (a .width) (a .height) G n z (heights at-lift) t (found .links-are);
+      basins-are = read-basins s (a .width) (a .height) G n z (heights at-lift) t (a .basins .now) (found .basins-are);
+    }
 
 pub link-record-spec : {M : Type 1} → statement M
 link-record-spec =

@@ -137,7 +137,7 @@ returns c =
     let levels = ap (λ (t : Network ℕ). t .levels) e in
     let drainage = ap (λ (t : Network ℕ). t .drainage) e in
     let wet = ap (λ (t : Network ℕ). t .wet) e in
-    (receivers, (order, (levels, (drainage, wet))))
+    record { receivers-are = receivers; order-is = order; levels-are = levels; drainage-is = drainage; wets-are = wet }
 
 pub walk-record-spec : {M : Type 1} → statement M
 walk-record-spec =

@@ -12,6 +12,7 @@ use Rattle.ground.specs.Judge.{judgeRecord}
 use Rattle.ground.specs.Record.{groundOfRecord}
 use Rattle.records.proofs.Reading.{heights-read, marks-read, water-read}
 use Rattle.ground.specs.Rooms.{listsHold}
+use Rattle.records.specs.Calls.{threeLists}
 use Rattle.rules.specs.Ground.{cellsOf}
 use Rattle.records.proofs.read_record.Statement.{statement}
 use Rattle.records.proofs.read_record.Tie as tie
@@ -45,7 +46,7 @@ read-cells-requires c κs =
     (omega arith, omega arith, omega arith, omega arith)
 
 returns : tie.Need-returns
-returns c = (sym (c .before .judged .given .1) ∙ judged-at (c .before .before .before), (refl, (refl, refl)))
+returns c = record { answer = sym (c .before .judged .given .1) ∙ judged-at (c .before .before .before); lists = refl }
 
 returns-2 : tie.Need-returns-2
 returns-2 c =
@@ -59,7 +60,7 @@ returns-2 c =
     let heights = heights-read (a .bytes .now) n (a .heights .now) (r .read-cells .ensures .0) in
     let marks = marks-read (a .bytes .now) n (a .marks .now) (r .read-cells .ensures .1 .0) in
     let water = water-read (a .bytes .now) n (a .water .now) (r .read-cells .ensures .1 .1) in
-    (answer, (heights, (marks, water)))
+    record { answer = answer; lists = λ i. threeLists (heights i) (marks i) (water i) }
 
 pub read-record-spec : {M : Type 1} → statement M
 read-record-spec =

@@ -30,14 +30,17 @@ write-sections-requires c κs =
     (f .good, leb-true (7 * (a .height * a .width) + 16) (length (a .bytes .now)) (f .roomy))
 
 returns : tie.Need-returns
-returns c = (sym (c .before .judged .given .1) ∙ c .before .before .before .judge-lists .ensures, refl)
+returns c = record { answer = sym (c .before .judged .given .1) ∙ c .before .before .before .judge-lists .ensures; lists = refl }
 
 returns-2 : tie.Need-returns-2
 returns-2 c =
     let m = c .before .before .before .before in
     let f = accepted-at m in
     let told = sym (m .enum-told .given .1) in
-    (rw (← f .width-is, ← f .height-is) told ∙ m .before .before .judge-lists .ensures, c .before .before .write-sections .ensures)
+    record {
+      answer = rw (← f .width-is, ← f .height-is) told ∙ m .before .before .judge-lists .ensures;
+      lists = c .before .before .write-sections .ensures;
+    }
 
 pub write-record-spec : {M : Type 1} → statement M
 write-record-spec =

@@ -6,6 +6,7 @@ use native.Mathlib.Omega.{arith}
 use lib.ListN.{length, take}
 use lib.Seq.{length-take-le}
 use borrow.Author.Needs.{needs}
+use Rattle.basins.proofs.Numbered.{labels-marked}
 use Rattle.basins.specs.Jumps.{FirstReceivers}
 use Rattle.lists.proofs.Filled.{filled-again}
 use Rattle.lists.specs.Lists.{filled}
@@ -39,8 +40,10 @@ links-ready c =
     let at-first = c .before .before .before .before .before .before .before in
     let a = start at-first .args in
     let p = start at-first .pre in
+    let L = land at-first in
+    let F = firsts at-first in
     linkable (p .0) _ (a .links .now)
-    (c .basin-numbers .ensures .1 (land at-first) (firsts at-first) (λ d h. refl)) (p .1 .1) (at-first .find-first .ensures .1)
+    (c .basin-numbers .ensures .labels-are L F ∙ labels-marked L _ _ F (a .marks .now) _ (λ d h. refl)) (p .1 .1) (at-first .find-first .ensures .1)
 
 basin-numbers-requires : tie.Need-basin-numbers-requires
 basin-numbers-requires c κs =
@@ -72,7 +75,7 @@ returns c =
     let a = start at-first .args in
     let L = land at-first in
     let n = length (a .heights .now) in (
-      at-basins .basin-numbers .ensures .0 L (firsts at-first) ∙ ap (filled (basin L) n) (at-first .find-first .ensures .0)
+      at-basins .basin-numbers .ensures .numbers-are L (firsts at-first) ∙ ap (filled (basin L) n) (at-first .find-first .ensures .0)
           ∙ filled-again (basin L) (firstReceiver L) n (a .basins .now),
       at-links .link-passes .ensures (a .marks .now) (links-ready at-basins),
     )

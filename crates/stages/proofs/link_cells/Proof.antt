@@ -10,10 +10,11 @@ returns c =
     let at-links = c .before .before .before .before in
     let st = at-links .before .before .before .before .before .before .before in
     let a = st .args in
-    let found = at-links .find-links in (
-      found .ensures .0,
-      margin (a .links .now) (st .pre .1 .1) (found .kept .1 .1 .1 .1 .0) (found .ensures .1),
-    )
+    let found = at-links .find-links in
+    record {
+      basins-are = found .ensures .0;
+      links-are = margin (a .links .now) (st .pre .1 .1) (found .kept .1 .1 .1 .1 .0) (found .ensures .1);
+    }
 
 pub link-cells-spec : {M : Type 1} → statement M
 link-cells-spec =

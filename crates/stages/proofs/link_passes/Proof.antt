@@ -25,7 +25,7 @@ chosen-are : (c : tie.After-choose-pairs) (marks : List ℕ)
     → let a = start c .args in
     Linkable rule4 (a .w) (a .heights .now) marks (a .labels .now) (a .links .now)
     → ChosenPairs rule4 (a .w) (a .heights .now) marks (take (c .choose-pairs .result) (c .choose-pairs .last .1 .1 .1 .0))
-chosen-are c marks K = c .choose-pairs .ensures .1 marks (choosable K _ (let few = K .land .tile .grid .few in omega arith))
+chosen-are c marks K = c .choose-pairs .ensures .pairs marks (choosable K _ (let few = K .land .tile .grid .few in omega arith))
 
 choose-pairs-requires : tie.Need-choose-pairs-requires
 choose-pairs-requires c κs =
@@ -35,7 +35,7 @@ choose-pairs-requires c κs =
 slice-aggregate-link-pairs : tie.Need-slice-aggregate-link-pairs
 slice-aggregate-link-pairs c =
     let chosen = c .before .before .choose-pairs in
-    sym (length-take-le (chosen .result) (chosen .last .1 .1 .1 .0) (chosen .ensures .0))
+    sym (length-take-le (chosen .result) (chosen .last .1 .1 .1 .0) (chosen .ensures .within))
 
 link-pairs-requires : tie.Need-link-pairs-requires
 link-pairs-requires c κs =

@@ -45,13 +45,13 @@ room st =
     }
 
 walked : (c : tie.After-walk-links) → Walked (land c) (receivers (land c)) (before c) (after c)
-walked c = c .walk-links .ensures (receivers (land c)) (linking c .link-cells .ensures .1)
+walked c = c .walk-links .ensures (receivers (land c)) (linking c .link-cells .ensures .links-are)
 
 -- what the walk left is what drainage asks for
 drainable : (c : tie.After-walk-links)
     → Ordered (land c) (receivers (land c)) (length (start c .args .water .now)) (after c .order) (after c .receivers)
 drainable c =
-    ordered (start c .pre .0 .0) (linking c .link-cells .ensures .1) (room (start c)) (walked c) (length (start c .args .water .now))
+    ordered (start c .pre .0 .0) (linking c .link-cells .ensures .links-are) (room (start c)) (walked c) (length (start c .args .water .now))
     (start c .pre .0 .1)
 
 walk-links-requires : tie.Need-walk-links-requires
@@ -59,7 +59,7 @@ walk-links-requires c κs =
     let at-links = c .before .before .before .before .before .before .before .before .before in
     let st = at-links .before .before .before .before .before .before .before .before .before .before .before .before in
     let a = st .args in (
-      (receivers (tileLand rule4 (a .w) (a .heights .now) (a .marks .now)), at-links .link-cells .ensures .1),
+      (receivers (tileLand rule4 (a .w) (a .heights .now) (a .marks .now)), at-links .link-cells .ensures .links-are),
       room st,
     )
 
@@ -78,8 +78,8 @@ returns c =
     let st = start at-walk in
     let a = st .args in
     let L = land at-walk in
-    worked (st .pre .0 .0) (linked .1) (room st) (walked at-walk) (a .basins .now) (a .water .now) (length (a .water .now))
-    (st .pre .0 .1) (linked .0) (at-drain .drain .ensures L (receivers L) (drainable at-walk))
+    worked (st .pre .0 .0) (linked .links-are) (room st) (walked at-walk) (a .basins .now) (a .water .now) (length (a .water .now))
+    (st .pre .0 .1) (linked .basins-are) (at-drain .drain .ensures L (receivers L) (drainable at-walk))
 
 pub work-out-spec : {M : Type 1} → statement M
 work-out-spec =

@@ -9,8 +9,8 @@ use native.Mathlib.Omega.{arith}
 use lib.ListN.{length}
 use borrow.Author.Needs.{needs}
 use Rattle.lists.specs.Lists.{at}
+use Rattle.rules.proofs.TraceSteps.{Onward, traceFrom-outlet, traceFrom-outside, traceFrom-spent, traceFrom-step}
 use Rattle.rules.specs.Trace.{traceFrom}
-use Rattle.trace.proofs.Steps.{Onward, traceFrom-outlet, traceFrom-outside, traceFrom-spent, traceFrom-step}
 use Rattle.trace.proofs.walk.Statement.{statement}
 use Rattle.trace.proofs.walk.Tie as tie
 

@@ -7,9 +7,9 @@ use Prim.Native.Nat.{ℕ, _+_, _-_}
 use native.Mathlib.Omega.{arith}
 use lib.ListN.{length}
 use borrow.Author.Needs.{needs}
+use Rattle.rules.proofs.TraceSteps.{traceFrom-ended}
 use Rattle.rules.specs.Trace.{stopped, traceFrom}
 use Rattle.trace.proofs.Ring.{stopped-later, stopped-on-ring}
-use Rattle.trace.proofs.Steps.{traceFrom-ended}
 use Rattle.trace.specs.Answer.{answerOf}
 use denote.Enum.Declared.{tagOf}
 use types.Run.{OneOf}

@@ -12,30 +12,28 @@ use Rattle.network_impostors.proofs.zero_levels.clear_levels.Statement.
 use Rattle.network_impostors.proofs.zero_levels.clear_levels.Tie as tie
 
 abbrev Inv-loop : tie.InvT-loop
-Inv-loop list₀ k₀ k-end list k =
-    (k-end ≡ length list₀) × (k ≤ length list₀) × (length list ≡ length list₀) × (list ≡ filled (λ _. pos 0) k list₀)
+Inv-loop n list₀ k₀ list k = (k ≤ n) × (length list ≡ length list₀) × (list ≡ filled (λ _. pos 0) k list₀)
 
 abbrev μ-loop : tie.MeasureT-loop
-μ-loop list₀ k₀ k-end list k = length list₀ - k
+μ-loop n list₀ k₀ list k = n - k
 
 loop-holds : tie.Need-loop-holds Inv-loop μ-loop
-loop-holds c = (refl, search needs, refl, sym (filled-none _ _))
+loop-holds c = (search needs, refl, sym (filled-none _ _))
 
 loop-again : tie.Need-loop-again Inv-loop μ-loop
 loop-again c =
     let l = c .before in
     let a = l .before .args in (
-      refl,
       search needs,
-      simp length-set (l .loop .inv .2),
-      rw (l .loop .inv .3) (filled-next (λ _. pos 0) (l .loop .k) (a .list .now) (omega arith)),
+      simp length-set (l .loop .inv .1),
+      rw (l .loop .inv .2) (filled-next (λ _. pos 0) (l .loop .k) (a .list .now) (omega arith)),
     )
 
 returns : tie.Need-returns Inv-loop μ-loop
 returns c =
     let l = c .before in
-    let e : l .loop .k ≡ length (l .before .args .list .now) = omega arith in
-    l .loop .inv .3 ∙ rw e
+    let e : l .loop .k ≡ l .before .args .n = omega arith in
+    l .loop .inv .2 ∙ rw e
 
 pub clear-levels-spec : {M : Type 1} → statement M
 clear-levels-spec =

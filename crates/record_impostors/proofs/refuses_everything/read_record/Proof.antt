@@ -5,7 +5,7 @@ use Rattle.record_impostors.proofs.refuses_everything.read_record.State
 use Rattle.record_impostors.proofs.refuses_everything.read_record.Tie as tie
 
 returns : tie.Need-returns
-returns c = (refl, (refl, (refl, refl)))
+returns c = record { answer = refl; lists = refl }
 
 pub read-record-spec : {M : Type 1} → statement M
 read-record-spec = tie.close (tie.spec returns)

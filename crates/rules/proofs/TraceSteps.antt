@@ -1,24 +1,25 @@
--- What the trace does at a cell, in its four cases, and what a trace that stopped or ended tells of a larger budget.
+-- What the trace does at a cell, in its four cases, and what a trace that stopped or ended tells of a larger budget; and a trace of a list and
+-- a cell that are not refused.
 -- Assumes nothing.
 use mathlib.Core.List.{List}
 use mathlib.Core.Logic.{inl, inr, _⊎_}
 use mathlib.Core.Path.{ap, subst, sym, _∙_, _≡_}
 use Prim.Native.Nat.{suc, zero, ℕ, _+_, _<_, _≤_}
-use native.Mathlib.Nat.{add-zero, suc-add}
+use native.Mathlib.Nat.{add-zero, suc-add, zero-add}
 use native.Mathlib.Omega.{arith}
 use lib.ListN.{length}
-use borrow.Author.Tests.{eq-eqb, le-ltb, lt-ltb, ne-eqb}
+use borrow.Author.Tests.{eq-eqb, le-leb, le-ltb, lt-ltb, ne-eqb}
 use Rattle.lists.proofs.Tests.{eq-or-ne, lt-or-ge}
 use Rattle.lists.specs.Lists.{at, repeat}
-use Rattle.rules.specs.Trace.{reached, refused, stopped, Traced, traceFrom}
+use Rattle.rules.specs.Trace.{reached, refused, stopped, trace, Traced, traceFrom}
 
--- the trace goes on from c: the entry is on the list, and another cell
+-- a cell from which the trace goes on: its entry is on the list, and another cell
 pub record Onward (r : List ℕ) (c : ℕ) : Type 0 where
   pub inside : at r c < length r
   pub moves : at r c ≡ c → ⊥
 
 -- what the trace meets at c: an entry outside the list, an outlet, or a way on
-pub data Arrival (r : List ℕ) (c : ℕ) : Type 0 where
+data Arrival (r : List ℕ) (c : ℕ) : Type 0 where
   outside : length r ≤ at r c → Arrival r c
   outlet : at r c < length r → at r c ≡ c → Arrival r c
   onward : Onward r c → Arrival r c
@@ -113,3 +114,13 @@ module _ (r : List ℕ) where
       traceFrom-step k s c (f 0)
       ∙ traceFrom-endless k (suc s) (at r c) (λ j. f (suc j))
       ∙ ap (stopped (repeat k (at r) (at r c))) (let e : suc s + k ≡ s + suc k = omega arith in e)
+
+  -- neither the list nor the cell is refused
+  pub trace-allowed : (c budget : ℕ) → length r ≤ 4096 → c < length r → trace r c budget ≡ traceFrom r budget 0 c
+  unfolding trace
+  trace-allowed c budget few h = rw (le-leb 1 (length r) (omega arith), le-leb (length r) 4096 few, lt-ltb c (length r) h)
+
+  pub trace-endless : (c : ℕ) → length r ≤ 4096 → c < length r → ((j : ℕ) → Onward r (repeat j (at r) c))
+      → (budget : ℕ) → trace r c budget ≡ stopped (repeat budget (at r) c) budget
+  trace-endless c few h goes budget =
+      trace-allowed c budget few h ∙ traceFrom-endless budget 0 c goes ∙ ap (stopped (repeat budget (at r) c)) (zero-add budget)

@@ -1,0 +1,17 @@
+-- What walking the linked cells of a record leaves in the five lent lists.
+-- Assumes nothing.
+use mathlib.Core.List.{List}
+use mathlib.Core.Path.{_≡_}
+use Prim.Native.Nat.{ℕ}
+use Rattle.ground.specs.Record.{groundIn}
+use Rattle.lists.specs.Lists.{overwrite}
+use Rattle.rules.specs.Network.{liftedNetworkOf}
+use Rattle.walk.specs.Walk.{Lent}
+
+-- the network of the record's ground but for its basins, levels lifted, stands at their start; drainage stands where the walk's stack was
+pub record RecordWalked (s : List ℕ) (w h : ℕ) (before after : Lent) : Type 0 where
+  pub receivers-are : after .receivers ≡ overwrite (liftedNetworkOf (groundIn s w h) .receivers) (before .receivers)
+  pub order-is : after .order ≡ overwrite (liftedNetworkOf (groundIn s w h) .order) (before .order)
+  pub levels-are : after .levels ≡ overwrite (liftedNetworkOf (groundIn s w h) .levels) (before .levels)
+  pub drainage-is : after .stack ≡ overwrite (liftedNetworkOf (groundIn s w h) .drainage) (before .stack)
+  pub wets-are : after .wets ≡ overwrite (liftedNetworkOf (groundIn s w h) .wet) (before .wets)

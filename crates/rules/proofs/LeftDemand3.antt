@@ -1,0 +1,46 @@
+-- Demand 3 holds of any six lists whose first N entries are the network of a ground; and a trace along their receivers reaches the outlet.
+-- Assumes nothing.
+use mathlib.Core.Path.{ap, refl, subst, sym, _∙_, _≡_}
+use Prim.Native.Nat.{_≤_}
+use lib.IntN.{ℤ}
+use lib.ListN.{take}
+use Rattle.rules.proofs.Demand3Holds.{tile-demand-3}
+use Rattle.rules.proofs.NetworkDrains.{network-drains}
+use Rattle.rules.proofs.Traces.{trace-reaches, trace-same}
+use Rattle.rules.specs.Demand3.{Demand3}
+use Rattle.rules.specs.Ground.{cellsOf, Drainable, Ground}
+use Rattle.rules.specs.Land.{land4}
+use Rattle.rules.specs.Left.{LeftDemand3}
+use Rattle.rules.specs.LeftTrace.{LeftTraced}
+use Rattle.rules.specs.Network.{liftedNetwork, Network, network, networkOf}
+use Rattle.rules.specs.SixLists.{firstOf}
+use Rattle.rules.specs.Way.{Drains}
+
+pub left-demand-3 : (g : Ground) → Drainable g → (s : Network ℤ) → firstOf (cellsOf g) s ≡ network g → LeftDemand3 g s
+unfolding network networkOf liftedNetwork
+left-demand-3 g o s e =
+    let r : take (cellsOf g) (s .receivers) ≡ network g .receivers = ap (λ (t : Network ℤ). t .receivers) e in
+    let lists : firstOf (cellsOf g) s ≡ networkOf (land4 g) (g .water) (take (cellsOf g) (s .receivers)) =
+    e ∙ ap (networkOf (land4 g) (g .water)) (sym r) in
+    record {
+      demands = subst (Demand3 (land4 g) (g .water)) (sym r) (tile-demand-3 g o);
+      levels-left = ap (λ (t : Network ℤ). t .levels) lists;
+      drainage-left = ap (λ (t : Network ℤ). t .drainage) lists;
+      drains = subst (Drains (land4 g)) (sym r) (network-drains g o);
+    }
+
+-- the receivers of such lists, N at most 4,096, traced from each cell: the outlet and the steps are those of demand 3
+pub left-traced : (g : Ground) (s : Network ℤ) → LeftDemand3 g s → cellsOf g ≤ 4096 → LeftTraced g s
+left-traced g s D few =
+    record {
+      traced = λ c h.
+          let F = D .demands .followed c h refl in
+          let r = take (cellsOf g) (s .receivers) in
+          record {
+            steps = F .steps;
+            few-steps = F .few-steps;
+            outlet-reached = F .outlet-reached;
+            reaches = trace-reaches (land4 g) r (D .drains) few c h refl (F .way);
+            same = trace-same (land4 g) r (D .drains) few c h refl;
+          };
+    }
