@@ -32,7 +32,7 @@ module _ (ground lent : List ℕ) (bytes : Below 256 ground) {w h : ℕ} {after 
   abbrev g : Ground
   g = groundOfRecord ground
 
-  pub accepted-call : AcceptedRecord (roomOf lent) ground w h
+  accepted-call : AcceptedRecord (roomOf lent) ground w h
   accepted-call = record-accepted (roomOf lent) ground (sym (o .answer))
 
   small : Below 65536 (groundOfRecord ground .water)

@@ -24,8 +24,8 @@ use Rattle.rules.specs.SixLists.{onto}
 use Rattle.ground.specs.declared.Judged.{Judged}
 
 -- demand 1: sample A is accepted, and not refused with 6
-pub refuses-every-tile : (r : Judged) (after : Network ℤ) → RefusesEveryTile (zeros 1) r after → Outcome groundA (zeros 1) r after
-    → ⊥
+pub refuses-every-tile : (r : Judged) (after : Network ℤ) → RefusesEveryTile groundA (zeros 1) r after
+    → Outcome groundA (zeros 1) r after → ⊥
 unfolding judgeLists judge judgeCells judgeMarks judgeOutlet
 refuses-every-tile r after d o = let e = ap numberOf (sym (d .answer) ∙ o .answer) in omega (arith, e)
 

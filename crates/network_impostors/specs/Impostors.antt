@@ -6,7 +6,6 @@ use lib.Dec.{eqb}
 use lib.IntN.{pos, ℤ}
 use Rattle.ground.specs.Judge.{judgeLists}
 use Rattle.lists.specs.Lists.{tab}
-use Rattle.lists.specs.Allowed.{Allowed}
 use Rattle.network.specs.Call.{Draws, networkHolds}
 use Rattle.rules.specs.Ground.{cellsOf, Ground}
 use Rattle.rules.specs.Network.{network, Network}
@@ -16,9 +15,9 @@ use Rattle.ground.specs.declared.Judged.{Judged}
 use Rattle.ground.specs.declared.Judged.the-variants.{Accepted, Refused}
 use Rattle.ground.specs.declared.Refusal.the-variants.{NoOutlet}
 
--- it refuses every tile with 6, which is right for a tile without an outlet, and leaves all as it was
-abbrev pub RefusesEveryTile : (before : Network ℤ) (r : Judged) (after : Network ℤ) → Type 0
-RefusesEveryTile before = Allowed (Refused NoOutlet) (λ _. before)
+-- it refuses every tile with 6, which is right for a tile without an outlet, and leaves what that answer leaves: all as it was
+abbrev pub RefusesEveryTile : Ground → (before : Network ℤ) (r : Judged) (after : Network ℤ) → Type 0
+RefusesEveryTile g before = Draws (Refused NoOutlet) (network g) before
 
 -- it gives the right answer, but where it accepts it leaves `wrong g` in the place of `network g`
 abbrev pub LeavesWrong : (Ground → Network ℤ) → Ground → (before : Network ℤ) (r : Judged) (after : Network ℤ) → Type 0
