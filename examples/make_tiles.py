@@ -1,5 +1,5 @@
 #!/usr/bin/env python3
-"""Writes the ground records of examples/tiles: the sample tiles A to G, the valley, and one record for each refusal.
+"""Writes the ground records of examples/tiles: the sample tiles A to G, the valley, the meadow, and one record for each refusal.
 
 The records are kept beside this script; run it to see how a ground record is made, or to make one of your own.
 """
@@ -57,6 +57,21 @@ def valley():
     return ground_record(width, height, heights, marks, water)
 
 
+def meadow():
+    """A level meadow below a slope, with a pond in it, that drains to a ditch in the east. Only the pond is wet."""
+    width, height = 12, 7
+    pond = {(6, 2), (7, 2), (5, 3), (6, 3), (7, 3), (8, 3), (6, 4), (7, 4)}
+    heights = []
+    for y in range(height):
+        for x in range(width):
+            slope = 30 * max(0, 3 - x)
+            heights.append(100 + slope - (40 if (x, y) in pond else 0))
+    ditch = 3 * width + 11
+    heights[ditch] = 90
+    marks = [int(cell == ditch) for cell in range(width * height)]
+    return ground_record(width, height, heights, marks, [1] * (width * height))
+
+
 def refusals():
     good = row([0, 3, 1], {0})
     yield "refused_1_size", good[:-16] + struct.pack("<HH", 0, 1) + good[-12:]
@@ -69,6 +84,6 @@ def refusals():
 
 if __name__ == "__main__":
     os.makedirs(FOLDER, exist_ok=True)
-    for name, record in [*samples(), ("valley", valley()), *refusals()]:
+    for name, record in [*samples(), ("valley", valley()), ("meadow", meadow()), *refusals()]:
         with open(os.path.join(FOLDER, name + ".ground"), "wb") as file:
             file.write(record)

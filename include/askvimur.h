@@ -9,7 +9,7 @@
  *             No read or write outside the two records, no overflow, and the call always returns.
  *   Tested    That the compiled call does what was proved: it is compared, byte for byte, with a second program in Rust. That nothing
  *             in it calls itself, and how much stack it takes. The functions that this header defines are plain C and
- *             C++: what they read of the sample tiles is compared with the text of `drain`.
+ *             C++: what they read of the sample tiles is compared with the text of `drain`, and wet with level and height.
  *   Assumed   What the caller owes, below. Nothing can check it from inside the call.
  *
  * THE GROUND RECORD
@@ -142,7 +142,8 @@ static inline uint32_t askvimur_drainage(const uint8_t *network, size_t cells, s
   return askvimur_u32(network + 10 * cells + 4 * cell);
 }
 
-/* 1 for a wet cell, 0 for any other. */
+/* 1 for a wet cell, one whose level is greater than its height in the ground record; 0 for any other. An outlet is never wet, nor is
+ * level ground whose water runs off without a climb. */
 static inline uint8_t askvimur_wet(const uint8_t *network, size_t cells, size_t cell) { return network[14 * cells + cell]; }
 
 /* ---- C++ ---------------------------------------------------------------------------------------------------------------------- */

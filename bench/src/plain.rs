@@ -1,4 +1,4 @@
-//! The plain Rust version: document 01 as a Rust engineer would write it in an afternoon.
+//! The plain Rust version: the C call as a Rust engineer would write it in an afternoon.
 //! All checks, record in, record out; crossings sorted by the standard library, union-find,
 //! carving by reversal. Its lists are kept between tiles, so that no time goes to allocation.
 
@@ -346,9 +346,8 @@ impl Plain {
         for (bytes, sum) in drainage.chunks_exact_mut(4).zip(&self.drainage) {
             bytes.copy_from_slice(&sum.to_le_bytes());
         }
-        for (cell, wet) in wet.iter_mut().enumerate() {
-            let receiver = usize::from(self.receivers[cell]);
-            *wet = u8::from(receiver != cell && self.levels[receiver] == self.levels[cell]);
+        for ((wet, level), height) in wet.iter_mut().zip(&self.levels).zip(&self.heights) {
+            *wet = u8::from(level > height);
         }
         trailer[..2].copy_from_slice(&(self.width as u16).to_le_bytes());
         trailer[2..4].copy_from_slice(&(self.height as u16).to_le_bytes());

@@ -1,4 +1,5 @@
-//! Rules 7 to 10: levels, order, drainage and wet, which all follow from the receivers.
+//! Rules 7 to 10: levels, order and drainage, which follow from the receivers, and wet, which follows
+//! from the levels.
 
 use crate::ground::{Cell, Ground};
 
@@ -57,14 +58,10 @@ pub fn drainage(receivers: &[Cell], ground: &Ground) -> Vec<u32> {
     drainage
 }
 
-/// Rule 10: 1 for a cell that isn't an outlet and stands at its receiver's level.
-pub fn wet(receivers: &[Cell], levels: &[i32], ground: &Ground) -> Vec<u8> {
+/// Rule 10 as W-201 has it: 1 for a cell whose level is greater than its height.
+pub fn wet(levels: &[i32], ground: &Ground) -> Vec<u8> {
     ground
         .cells()
-        .map(|cell| {
-            let receiver = receivers[cell.index()];
-            let level_with_receiver = levels[cell.index()] == levels[receiver.index()];
-            u8::from(!ground.is_outlet(cell) && level_with_receiver)
-        })
+        .map(|cell| u8::from(levels[cell.index()] > ground.height(cell)))
         .collect()
 }

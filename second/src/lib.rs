@@ -1,6 +1,6 @@
-//! The second program: document 01 followed word for word, in plain Rust.
+//! The second program: document 01, as document 02 changes it, followed word for word, in plain Rust.
 //!
-//! It is written from document 01 alone and shares nothing with the proved library,
+//! It is written from these two alone and shares nothing with the proved library,
 //! so that a fault in one of the two shows when they are compared.
 //! Plainness comes before speed. The stages are public, one file for each,
 //! in the order of the rules, so that the comparison can exchange one for a wrong one.

@@ -37,7 +37,7 @@ pub fn network(ground: &Ground) -> Network {
     let order = order(&receivers);
     let levels = levels(&receivers, &order, ground);
     let drainage = drainage(&receivers, ground);
-    let wet = wet(&receivers, &levels, ground);
+    let wet = wet(&levels, ground);
     Network {
         receivers,
         basins: basins.of_cells,

@@ -182,9 +182,54 @@ fn drainage_is_the_water_of_all_that_lies_above() {
     }
 }
 
-/// Two wet neighbours with two levels: rule 10 asks for the receiver's level and no more.
+/// The cells that are no higher than a cell and joined to it through such cells.
+fn no_higher(start: Cell, ground: &Ground) -> Vec<Cell> {
+    let mut found = vec![start];
+    let mut next = 0;
+    while next < found.len() {
+        for cell in ground.size.neighbours(found[next]) {
+            if ground.height(cell) <= ground.height(start) && !found.contains(&cell) {
+                found.push(cell);
+            }
+        }
+        next += 1;
+    }
+    found
+}
+
 #[test]
-fn wet_neighbours_may_have_two_levels() {
+fn wet_is_where_every_way_out_climbs() {
+    for ground in small_tiles() {
+        let network = network(&ground);
+        for cell in ground.cells() {
+            let dry = no_higher(cell, &ground)
+                .iter()
+                .any(|&other| ground.is_outlet(other));
+            assert_eq!(network.wet[cell.index()], u8::from(!dry));
+        }
+    }
+}
+
+#[test]
+fn wet_neighbours_have_one_level() {
+    for ground in small_tiles() {
+        let network = network(&ground);
+        let wet = |cell: &Cell| network.wet[cell.index()] == 1;
+        for cell in ground.cells().filter(wet) {
+            for neighbour in ground.size.neighbours(cell).filter(wet) {
+                assert_eq!(
+                    network.levels[cell.index()],
+                    network.levels[neighbour.index()]
+                );
+            }
+        }
+    }
+}
+
+/// Document 01's rule 10 called five more cells wet, of which 6 and 7 are neighbours with two levels.
+/// They are level with their receivers, and no water stands on them.
+#[test]
+fn a_meadow_is_not_a_lake() {
     let ground = Ground {
         size: Size {
             width: 4,
@@ -195,6 +240,11 @@ fn wet_neighbours_may_have_two_levels() {
         water: vec![1; 12],
     };
     let network = network(&ground);
-    assert_eq!((network.wet[6], network.wet[7]), (1, 1));
+    assert_eq!(network.wet, [0, 0, 0, 1, 0, 0, 0, 0, 0, 0, 0, 0]);
+    for cell in [1, 6, 7, 9, 10] {
+        let receiver = network.receivers[cell].index();
+        assert_eq!(network.levels[cell], network.levels[receiver]);
+        assert_eq!(network.levels[cell], ground.heights[cell]);
+    }
     assert_ne!(network.levels[6], network.levels[7]);
 }

@@ -1,10 +1,11 @@
-//! Samples A to G of document 01: lists, records and the call, and F's bytes and text.
+//! Samples A to G of document 01, D's wet entries as W-201 has them: lists, records and the call, and
+//! F's bytes and text.
 
 use second::ground::{Basin, Cell, Ground, Size};
 use second::network::{network, network_of_lists, Network};
 use second::{call, network_record, record, text};
 
-/// A sample as document 01 writes it: the ground, then the network.
+/// A sample: the ground, then the network.
 struct Sample {
     name: &'static str,
     size: (usize, usize),
@@ -70,7 +71,7 @@ const SAMPLES: [Sample; 7] = [
         order: &[0, 1, 2, 5, 4, 7, 3, 6, 8],
         levels: &[0; 9],
         drainage: &[8, 5, 2, 2, 2, 1, 1, 1, 1],
-        wet: &[0, 1, 1, 1, 1, 1, 1, 1, 0],
+        wet: &[0; 9],
     },
     Sample {
         name: "E",

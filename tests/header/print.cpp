@@ -1,5 +1,6 @@
 // Prints the network of a ground record as `drain` prints it, with nothing but the functions of the header: the text is held to the stored
 // one. Each section is also read where the trailer's distances say that it starts, and the header's function must read the same there.
+// A cell must be wet exactly when its level is greater than its height. A cell that is read wrongly is named on standard error.
 // usage: print FILE
 #include <cstdio>
 #include <fstream>
@@ -38,7 +39,11 @@ int main(int count, char **words) {
   std::printf("tile %zu %zu\n", network.width(), network.height());
   unsigned long drained = 0, water = 0;
   for (std::size_t cell = 0; cell < network.cells(); ++cell) {
-    if (!read_alike(network, cell)) return 1;
+    const bool above = network.level(cell) > askvimur_i32(ground.data() + 4 * cell);
+    if (!read_alike(network, cell) || network.wet(cell) != above) {
+      std::fprintf(stderr, "cell %zu\n", cell);
+      return 1;
+    }
     std::printf("%zu %u %d %u\n", cell, static_cast<unsigned>(network.receiver(cell)), static_cast<int>(network.level(cell)),
                 static_cast<unsigned>(network.drainage(cell)));
     if (network.outlet(cell)) drained += network.drainage(cell);

@@ -27,7 +27,7 @@ module _ (g : Ground) (G : Good g) where
   lifted-full = length-map (g .heights) lifted ∙ G .heights-full
 
   -- lifted heights are at most 16,000,000
-  lifted-low : (c : ℕ) → at (map lifted (g .heights)) c ≤ 16000000
+  pub lifted-low : (c : ℕ) → at (map lifted (g .heights)) c ≤ 16000000
   lifted-low c = go (lt-or-ge c (length (g .heights)))
     where
       go : (c < length (g .heights)) ⊎ (length (g .heights) ≤ c) → at (map lifted (g .heights)) c ≤ 16000000

@@ -3,4 +3,5 @@ pub mod Grounds
 pub mod Networks
 pub mod AcceptedCalls
 pub mod LeftDemand3
+pub mod LeftWet
 pub mod OneOutcome

@@ -1,4 +1,4 @@
-// The network of a tile, from lists to lists: judged, worked out by the stages of document 01's rules, and written into lent lists.
+// The network of a tile, from lists to lists: judged, worked out by the stages of the rules, and written into lent lists.
 // Heights are lifted on the way in and levels dropped on the way out. specs/Call.antt says what is left in each list.
 ghost use mathlib.Core.List.{map};
 ghost use mathlib.Core.Path.{_≡_};

@@ -2,22 +2,22 @@
 -- receivers that drain it.
 -- Assumes nothing.
 use mathlib.Core.Bool.{true}
-use mathlib.Core.List.{List, map}
+use mathlib.Core.List.{List}
 use mathlib.Core.Path.{subst, sym, _≡_}
 use Prim.Native.Nat.{ℕ, _*_, _<_, _≤_}
 use native.Mathlib.Omega.{arith}
 use lib.IntN.{pos}
 use lib.ListN.{getD}
 use Rattle.heights.proofs.Heights.{dropped-in-range}
-use Rattle.lists.proofs.Map.{map-at}
-use Rattle.lists.proofs.Tab.{tab-at, tab-below, tab-length}
-use Rattle.lists.specs.Lists.{at, tab}
+use Rattle.lists.proofs.Tab.{tab-below}
+use Rattle.lists.specs.Lists.{at}
 use Rattle.network_bytes.specs.Tellable.{Tellable}
 use Rattle.rules.proofs.BasinNumbers.{basin-below}
-use Rattle.rules.proofs.Bounds.{drainage-most, level-most, order-below, receiver-cell, wet-most}
-use Rattle.rules.proofs.SixLists.{networkOf-full}
+use Rattle.rules.proofs.Bounds.{drainage-most, level-most, order-below, receiver-cell}
+use Rattle.rules.proofs.SixLists.{networkOf-full, networkOf-level}
+use Rattle.rules.proofs.WetCells.{wet-most}
 use Rattle.rules.specs.FirstWays.{basin}
-use Rattle.rules.specs.Ground.{dropped, heightInRange}
+use Rattle.rules.specs.Ground.{heightInRange}
 use Rattle.rules.specs.Land.{Land}
 use Rattle.rules.specs.Network.{drainage, level, liftedNetwork, networkOf, wet}
 use Rattle.rules.specs.SixLists.{Full}
@@ -25,10 +25,9 @@ use Rattle.rules.specs.Way.{Drains}
 
 module _ (L : Land) (water r : List ℕ) (D : Drains L r) (whole : (c : ℕ) → c < L .cells → L .solid c ≡ true) (few : L .cells ≤ 4096)
     (low : (c : ℕ) → c < L .cells → L .height c ≤ 16000000) (small : (c : ℕ) → c < L .cells → at water c ≤ 65535) where
-  levels-in-range : (k : ℕ) → k < L .cells → heightInRange (getD (map dropped (tab (L .cells) (level L r))) k (pos 0)) ≡ true
+  levels-in-range : (k : ℕ) → k < L .cells → heightInRange (getD (networkOf L water r .levels) k (pos 0)) ≡ true
   levels-in-range k l =
-      rw (map-at dropped (tab (L .cells) (level L r)) k 0 (pos 0) (rw (tab-length (level L r) (L .cells)) l), tab-at (level L r) (L .cells) k 0 l)
-      (dropped-in-range (level L r k) (level-most L r D k l (whole k l) 16000000 low))
+      rw (networkOf-level L water r k l) (dropped-in-range (level L r k) (level-most L r D k l (whole k l) 16000000 low))
 
   pub networkOf-tellable : (w h : ℕ) → h * w ≡ L .cells → w < 65536 → h < 65536 → Tellable w h (networkOf L water r)
   unfolding networkOf liftedNetwork

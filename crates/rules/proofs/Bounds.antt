@@ -1,11 +1,10 @@
 -- How large the numbers of a network are: over any land, for its solid cells, and any receivers that drain it.
 -- Assumes nothing.
-use mathlib.Core.Bool.{Bool, cond, false, not, true, _&&_}
+use mathlib.Core.Bool.{true}
 use mathlib.Core.List.{List}
 use mathlib.Core.Path.{subst, sym, _≡_}
 use Prim.Native.Nat.{ℕ, _*_, _<_, _≤_}
 use native.Mathlib.Omega.{arith}
-use lib.Dec.{eqb}
 use Rattle.lists.proofs.At.{at-member}
 use Rattle.lists.specs.Lists.{at, Below}
 use Rattle.rules.proofs.Backward.{total-drainage, total-le}
@@ -13,7 +12,7 @@ use Rattle.rules.proofs.Levels.{level-peak}
 use Rattle.rules.proofs.Orders.{order-mem, runs-on}
 use Rattle.rules.specs.Demand3.{peak}
 use Rattle.rules.specs.Land.{Land}
-use Rattle.rules.specs.Network.{drainage, level, order, wet}
+use Rattle.rules.specs.Network.{drainage, level, order}
 use Rattle.rules.specs.Way.{done, Drains, more, Runs}
 
 -- a peak is no higher than the highest cell
@@ -21,15 +20,6 @@ peak-most : (L : Land) (next : ℕ → ℕ) (m : ℕ) → ((c : ℕ) → c < L .
 unfolding peak
 peak-most L next m f (done {c = a} h o) = f a h
 peak-most L next m f (more {c = a} h s o w) = let x = f a h in let y = peak-most L next m f w in omega arith
-
--- a wetness is 0 or 1
-pub wet-most : (L : Land) (r : List ℕ) (c : ℕ) → wet L r c ≤ 1
-unfolding wet
-wet-most L r c = go (L .solid c && not (L .outlet c) && eqb (level L r c) (level L r (at r c)))
-  where
-    go : (b : Bool) → cond b 1 0 ≤ 1
-    go true = omega arith
-    go false = omega arith
 
 module _ (L : Land) (r : List ℕ) (D : Drains L r) where
   -- the receiver of a cell is a cell

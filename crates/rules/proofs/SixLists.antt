@@ -6,10 +6,13 @@ use mathlib.Core.Path.{ap, refl, sym, _∙_, _≡_}
 use Prim.Native.Nat.{ℕ, _<_, _≤_}
 use native.Mathlib.Nat.{le-of-eq}
 use native.Mathlib.Omega.{arith}
-use lib.ListN.{length, length-map, length-take, take}
+use lib.IntN.{pos}
+use lib.ListN.{getD, length, length-map, length-take, take}
 use lib.Seq.{take-all}
+use Rattle.lists.proofs.Map.{map-at}
 use Rattle.lists.proofs.Overwrite.{overwrite-again, overwrite-take}
-use Rattle.lists.proofs.Tab.{tab-length}
+use Rattle.lists.proofs.Tab.{tab-at, tab-length}
+use Rattle.lists.specs.Lists.{tab}
 use Rattle.rules.proofs.WholeOrders.{order-whole}
 use Rattle.rules.specs.FirstWays.{basin}
 use Rattle.rules.specs.Ground.{dropped}
@@ -118,3 +121,10 @@ dropLevels-full {n} {s} F =
 pub networkOf-full : (L : Land) (water r : List ℕ) → Drains L r → ((c : ℕ) → c < L .cells → L .solid c ≡ true) → Full (L .cells) (networkOf L water r)
 unfolding networkOf
 networkOf-full L water r D whole = dropLevels-full (liftedNetwork-full L water r D whole)
+
+-- and each of its levels is rule 7's, dropped
+pub networkOf-level : (L : Land) (water r : List ℕ) (c : ℕ) → c < L .cells → getD (networkOf L water r .levels) c (pos 0) ≡ dropped (level L r c)
+unfolding networkOf liftedNetwork
+networkOf-level L water r c h =
+    map-at dropped (tab (L .cells) (level L r)) c 0 (pos 0) (rw (tab-length (level L r) (L .cells)) h)
+    ∙ ap dropped (tab-at (level L r) (L .cells) c 0 h)

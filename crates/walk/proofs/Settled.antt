@@ -1,34 +1,24 @@
--- What `settle` notes for the top cell is its level by rule 7 and its wetness by rule 10: what it finds at its receiver is the receiver's
--- level, and the cell's own height where it is an outlet.
+-- What `settle` notes for the top cell is its level by rule 7, and so its wetness by rule 10: what it finds at its receiver is the
+-- receiver's level, and the cell's own height where it is an outlet.
 -- Assumes nothing.
 use mathlib.Core.Bool.{cond, false, false≢true, true}
 use mathlib.Core.List.{List, List·Memᴰ·head as in-head}
 use mathlib.Core.Path.{ap, refl, subst, sym, _∙_, _≡_}
-use Prim.Native.Nat.{max, suc, ℕ, _<_, _≤_}
+use Prim.Native.Nat.{max, ℕ}
 use native.Mathlib.Omega.{arith}
-use lib.Dec.{eqb, ltb}
-use borrow.Author.Tests.{eq-eqb, eqb-true, ltb-false, ltb-true, ne-eqb}
+use lib.Dec.{eqb}
+use borrow.Author.Tests.{eq-eqb, eqb-true}
 use Rattle.lists.proofs.Any.{any-holds, any-member}
 use Rattle.lists.proofs.Tests.{is, isnt, Known, known}
 use Rattle.lists.specs.Lists.{any, at, _∈_}
 use Rattle.rules.proofs.Levels.{level-outlet, level-receiver}
-use Rattle.rules.proofs.Steps.{once-only}
 use Rattle.rules.specs.Land.{Land, Rule}
-use Rattle.rules.specs.Network.{level, wet}
+use Rattle.rules.specs.Network.{isWet, level, wet}
 use Rattle.rules.specs.Tile.{tileLand}
-use Rattle.rules.specs.Way.{done, Drains, more, Runs}
+use Rattle.rules.specs.Way.{Drains}
 use Rattle.walk.proofs.Midst.{Midst}
 use Rattle.walk.proofs.Tops.{Top}
-use Rattle.walk.specs.Climb.{wetNow}
 use Rattle.walk.specs.Walk.{Lent, Margin}
-
--- a height is above what is below it, or the greater of the two is what is below
-dry-or-level : (h b : ℕ) → _≡_ {A = ℕ} (cond (ltb b h) 0 1) (cond (eqb (max h b) b) 1 0)
-dry-or-level h b = go (known (ltb b h))
-  where
-    go : Known (ltb b h) → _≡_ {A = ℕ} (cond (ltb b h) 0 1) (cond (eqb (max h b) b) 1 0)
-    go (is t) = let q : b < h = ltb-true _ _ t in rw (t, ne-eqb (max h b) b (λ z. omega arith))
-    go (isnt t) = let q : h ≤ b = ltb-false _ _ t in rw (t, eq-eqb (max h b) b (omega arith))
 
 module _ {R : Rule} {w : ℕ} {heights marks links r : List ℕ} (M : Margin R w heights marks links r) {s₀ s : Lent} {k t : ℕ}
     {I : Midst (R .places) w (tileLand R w heights marks) r s₀ s k t} (T : Top I) where
@@ -68,27 +58,6 @@ module _ {R : Rule} {w : ℕ} {heights marks links r : List ℕ} (M : Margin R w
           omega arith
       go (isnt o) = ap (max (at heights x)) (below-inner o) ∙ sym (level-receiver L r (T .runs .1) o)
 
-  solid : L .solid x ≡ true
-  solid = go (T .runs .1)
-    where
-      go : {j : ℕ} → Runs L (at r) x j → L .solid x ≡ true
-      go (done h o) = D .outlet-solid x h o
-      go (more h b o z) = b
-
-  apart : L .outlet x ≡ false → at r x ≡ x → ⊥
-  apart o e = go (T .runs .1)
-    where
-      go : {j : ℕ} → Runs L (at r) x j → ⊥
-      go (done h q) = false≢true (sym o ∙ q)
-      go (more {j = i} h b q z) =
-          let f : suc i ≡ i = once-only L (at r) (more h b q z) (subst (λ (y : ℕ). Runs L (at r) y i) e z) in omega arith
-
-  pub wet-is : wetNow x (at r x) (at heights x) below ≡ wet L r x
+  pub wet-is : _≡_ {A = ℕ} (cond (isWet (at heights x) (max (at heights x) below)) 1 0) (wet L r x)
   unfolding wet
-  wet-is = go (known (L .outlet x))
-    where
-      go : Known (L .outlet x) → wetNow x (at r x) (at heights x) below ≡ wet L r x
-      go (is o) = rw (solid, o, eq-eqb (at r x) x (D .own x (T .on) o))
-      go (isnt o) =
-          let e : level L r x ≡ max (at heights x) (level L r (at r x)) = level-receiver L r (T .runs .1) o in
-          rw (solid, o, ne-eqb (at r x) x (apart o), below-inner o, e) (dry-or-level (at heights x) (level L r (at r x)))
+  wet-is = ap (λ (l : ℕ). cond (isWet (at heights x) l) 1 0) level-is

@@ -1,6 +1,6 @@
 -- A turn of the walk keeps its invariant: the top cell is written and noted, and the cells that receive to it are pending in its place.
 -- Assumes nothing.
-use mathlib.Core.Bool.{false}
+use mathlib.Core.Bool.{cond, false}
 use mathlib.Core.List.{[], append-assoc, List, List·Memᴰ·append-cases as in-append, List·Memᴰ·head as in-head, List·Memᴰ·tail as in-tail}
 use mathlib.Core.List.{map, map-append, Memᴰ·append-left as in-left, Memᴰ·append-right as in-right, _++_, _∷_}
 use mathlib.Core.Logic.{inl, inr, _⊎_}
@@ -14,14 +14,14 @@ use Rattle.lists.proofs.Overwrite.{overwrite-put}
 use Rattle.lists.specs.Lists.{at, _∈_}
 use Rattle.rules.proofs.Orders.{giver}
 use Rattle.rules.specs.Land.{Land, Rule}
-use Rattle.rules.specs.Network.{givers, gives, level, wet}
+use Rattle.rules.specs.Network.{givers, gives, isWet, level, wet}
 use Rattle.rules.specs.Tile.{tileLand}
 use Rattle.rules.specs.Way.{Drains}
 use Rattle.walk.proofs.Givers.{givers-count, pushes-givers}
 use Rattle.walk.proofs.Midst.{Midst}
 use Rattle.walk.proofs.Settled.{level-is, wet-is}
 use Rattle.walk.proofs.Tops.{after, next-rule, next-runs, parts, room, Top}
-use Rattle.walk.specs.Climb.{cellIn, entryOf, maskIn, ones, pushes, receiverIn, wetNow}
+use Rattle.walk.specs.Climb.{cellIn, entryOf, maskIn, ones, pushes, receiverIn}
 use Rattle.walk.specs.Walk.{lent, Lent, Margin, LentHolds}
 
 module _ {R : Rule} {w : ℕ} {heights marks links r : List ℕ} (M : Margin R w heights marks links r) {s₀ s : Lent} {k t : ℕ}
@@ -48,6 +48,10 @@ module _ {R : Rule} {w : ℕ} {heights marks links r : List ℕ} (M : Margin R w
   abbrev new : ℕ
   new = max (at heights x) (at (s .levels) (at r x))
 
+  -- and its wetness
+  abbrev wetness : ℕ
+  wetness = cond (isWet (at heights x) new) 1 0
+
   next-behind : (y : ℕ) → y ∈ after M I T → L .outlet y ≡ false → at r y ∈ (I .written ++ (x ∷ []))
   next-behind y m o = go (in-append (givers L r x) m)
     where
@@ -60,7 +64,7 @@ module _ {R : Rule} {w : ℕ} {heights marks links r : List ℕ} (M : Margin R w
       → drop t′ stack′ ≡ pushes (R .places) w links x child ++ drop (t + 1) (s .stack)
       → Midst (R .places) w L r s₀
       (lent stack′ (set (s .order) k x) (set (s .receivers) x (at r x)) (set (s .levels) x new)
-      (set (s .wets) x (wetNow x (at r x) (at heights x) (at (s .levels) (at r x))))) (k + 1) t′
+      (set (s .wets) x wetness)) (k + 1) t′
   turn-top stack′ t′ size moved pushed =
       let a : t + length (I .pending) ≡ n = I .at-t in let kn : k < n = room M I T .0 in let ak = I .at-k in
       let u : length (I .pending) ≡ suc (length (T .under)) = ap length (T .is-top) in
@@ -86,8 +90,7 @@ module _ {R : Rule} {w : ℕ} {heights marks links r : List ℕ} (M : Margin R w
         heights-noted = I .heights-noted;
         noted-receivers = noted-next (at r) (I .written) (s₀ .receivers) (s .receivers) x (at r x) (I .noted-receivers) (omega arith) refl;
         noted-levels = noted-next (level L r) (I .written) (s₀ .levels) (s .levels) x new (I .noted-levels) (omega arith) (level-is M T);
-        noted-wets = noted-next (wet L r) (I .written) (s₀ .wets) (s .wets) x (wetNow x (at r x) (at heights x) (at (s .levels) (at r x)))
-            (I .noted-wets) (omega arith) (wet-is M T);
+        noted-wets = noted-next (wet L r) (I .written) (s₀ .wets) (s .wets) x wetness (I .noted-wets) (omega arith) (wet-is M T);
       }
 
   -- with what is read out of the entry
@@ -95,7 +98,8 @@ module _ {R : Rule} {w : ℕ} {heights marks links r : List ℕ} (M : Margin R w
       → m ≡ maskIn (R .places) (at (s .stack) t) → length stack′ ≡ length (s .stack) → t′ + ones (R .places) m ≡ t + 1
       → drop t′ stack′ ≡ pushes (R .places) w links c m ++ drop (t + 1) (s .stack)
       → o′ ≡ set (s .order) k c → r′ ≡ set (s .receivers) c q → l′ ≡ set (s .levels) c (max (at heights c) (at (s .levels) q))
-      → v′ ≡ set (s .wets) c (wetNow c q (at heights c) (at (s .levels) q)) → Midst (R .places) w L r s₀ (lent stack′ o′ r′ l′ v′) (k + 1) t′
+      → v′ ≡ set (s .wets) c (cond (isWet (at heights c) (max (at heights c) (at (s .levels) q))) 1 0)
+      → Midst (R .places) w L r s₀ (lent stack′ o′ r′ l′ v′) (k + 1) t′
   turn c q m {stack′} {o′} {r′} {l′} {v′} {t′} ec eq em size moved pushed eo er el ev =
       let p = parts M I T in
       let c′ : c ≡ x = ec ∙ p .cell-is in

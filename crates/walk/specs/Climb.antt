@@ -6,7 +6,7 @@ use mathlib.Core.Bool.{cond}
 use mathlib.Core.List.{[], List, map, _++_, _∷_}
 use mathlib.Core.Path.{_≡_}
 use Prim.Native.Nat.{ℕ, _%_, _*_, _+_, _-_, _/_, _<_, _^_}
-use lib.Dec.{eqb, ltb}
+use lib.Dec.{eqb}
 use lib.ListN.{drop, length}
 use Rattle.grid.specs.Masks.{bitOf, maskOf}
 use Rattle.lists.specs.Lists.{at}
@@ -72,10 +72,6 @@ ones (p ∷ ps) mask = mask % 2 + ones ps (mask / 2)
 -- what a visit pushes: the neighbours of the mask, by ascending number from the top on
 unfoldable pub pushes : (places : List ℕ) (w : ℕ) (links : List ℕ) (c mask : ℕ) → List ℕ
 pushes places w links c mask = keptOf (besideEntry places w links c) places mask
-
--- wet, from a cell, its receiver, its height and its receiver's level
-abbrev pub wetNow : (c receiver height below : ℕ) → ℕ
-wetNow c receiver height below = cond (eqb receiver c) 0 (cond (ltb below height) 0 1)
 
 -- the walk may begin: the outlets' entries stand on the stack by ascending number, and heights in the place of levels
 pub record Ready (places : List ℕ) (w : ℕ) (L : Land) (r : List ℕ) (s : Lent) (t : ℕ) : Type 0 where

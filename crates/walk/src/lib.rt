@@ -11,13 +11,15 @@ ghost use Rattle.grid.specs.Window.{sides};
 ghost use Rattle.lists.specs.Lists.{at, filled, keep, upto};
 ghost use Rattle.rules.specs.Ground.{isOutlet};
 ghost use Rattle.rules.specs.Land.{rule4};
+ghost use Rattle.rules.specs.Network.{isWet};
 ghost use Rattle.rules.specs.Tile.{tileLand};
-ghost use Rattle.walk.specs.Climb.{cellIn, cellUnit, kept, maskIn, ones, outletEntry, pushes, Ready, receiverIn, shifted, wetNow};
+ghost use Rattle.walk.specs.Climb.{cellIn, cellUnit, kept, maskIn, ones, outletEntry, pushes, Ready, receiverIn, shifted};
 ghost use Rattle.walk.specs.Walk.{lent, LentHolds, LinksWalked, Margin, Walked};
 use kinds::Cell;
 use kinds::Place;
 use lists::most_u32;
 use rules::is_outlet;
+use rules::is_wet;
 use std::num::wrapping_add_u32;
 
 // One cell more in an entry: below stand the four bits of its mask.
@@ -123,16 +125,6 @@ fn visit(w: usize, links: &[u8], stack: &mut [u32], top: Place, c: Cell, mask: u
     push(stack, top3, up, mask % 2)
 }
 
-// 1 where a cell is wet: it is no outlet, its own receiver, and its receiver's level is no lower than its height.
-// Both tests are made before either is looked at.
-fn wet_mark(c: Cell, receiver: Cell, height: u32, below: u32) -> u8
-    ensures { λ r. ⌜ r ≡ wetNow (c .0) (receiver .0) height below ⌝ }
-{
-    let dry = one_if(below < height);
-    let out = one_if(receiver.0 == c.0);
-    one_if(dry + out == 0)
-}
-
 // Notes a cell's receiver, level and wetness, from its receiver's level.
 fn settle(
     heights: &[u32],
@@ -146,20 +138,19 @@ fn settle(
         (c .0 < length (now heights)) × (c .0 < length (now receivers)) × (c .0 < length (now levels)) × (c .0 < length (now wets))
         × (receiver .0 < length (now levels))
         ⌝ }
-    ensures { λ _. ⌜
-        (now (receivers .exit) ≡ set (now (receivers .entry)) (c .0) (receiver .0))
-        × (now (levels .exit)
-        ≡ set (now (levels .entry)) (c .0) (max (at (now (heights .entry)) (c .0)) (at (now (levels .entry)) (receiver .0))))
-        × (now (wets .exit)
-        ≡ set (now (wets .entry)) (c .0)
-        (wetNow (c .0) (receiver .0) (at (now (heights .entry)) (c .0)) (at (now (levels .entry)) (receiver .0))))
-        ⌝ }
+    ensures { λ _.
+        let height = at (now (heights .entry)) (c .0) in
+        let level = max height (at (now (levels .entry)) (receiver .0)) in
+        ⌜ (now (receivers .exit) ≡ set (now (receivers .entry)) (c .0) (receiver .0))
+        × (now (levels .exit) ≡ set (now (levels .entry)) (c .0) level)
+        × (now (wets .exit) ≡ set (now (wets .entry)) (c .0) (cond (isWet height level) 1 0)) ⌝ }
 {
     let below = levels[receiver.0 as usize];
     let height = heights[c.0 as usize];
+    let level = most_u32(height, below);
     receivers[c.0 as usize] = receiver.0;
-    levels[c.0 as usize] = most_u32(height, below);
-    wets[c.0 as usize] = wet_mark(c, receiver, height, below);
+    levels[c.0 as usize] = level;
+    wets[c.0 as usize] = one_if(is_wet(height, level));
 }
 
 // Takes the top entry off the stack, writes its cell next in the order, pushes what receives to it and settles it, until the stack

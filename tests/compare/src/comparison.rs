@@ -1,4 +1,5 @@
-//! The comparison of one record: every room, every lent and watched byte, and demand 3.
+//! The comparison of one record: every room, every lent and watched byte, and demand 3 and rule 10 by
+//! brute force.
 
 use std::time::Instant;
 
@@ -23,7 +24,7 @@ pub fn compare(library: Library, specimen: &Specimen, tally: &mut Tally) -> Opti
     None
 }
 
-/// One call to each side. Demand 3 is tried on what the first of them gives.
+/// One call to each side. Demand 3 and rule 10 are tried on what the first of them gives.
 fn compare_with_room(
     library: Library,
     specimen: &Specimen,
@@ -108,7 +109,7 @@ fn altered_ground(byte: usize, lent: &Lent) -> String {
     format!("{place} the ground record is altered")
 }
 
-/// What is wrong with an accepted network by demand 3.
+/// What is wrong with an accepted network by demand 3 and rule 10.
 fn broken_demand_3(answer: u32, found: &Lent, record: &[u8]) -> Option<String> {
     if answer >= 65_536 {
         return None;
@@ -116,7 +117,7 @@ fn broken_demand_3(answer: u32, found: &Lent, record: &[u8]) -> Option<String> {
     match record::read(record) {
         Ok(ground) => demand3::judge(&ground, found.written(answer as usize))
             .err()
-            .map(|wrong| format!("demand 3: {wrong}")),
+            .map(|wrong| format!("by brute force: {wrong}")),
         Err(_) => Some("a record that should be refused is accepted".to_string()),
     }
 }

@@ -1,16 +1,18 @@
 //! Demand 3 by brute force, on nothing but the ground and the bytes that came back.
 //! Every way reaches an outlet, every level is the least that can be, and no water is lost.
+//! Rule 10 is judged with it: a cell is wet exactly if every way out climbs above its ground.
 
 use std::cmp::Reverse;
 use std::collections::BinaryHeap;
 
 use second::ground::{Cell, Ground};
 
-/// The sections that demand 3 speaks of.
-struct Returned {
+/// The sections that are judged.
+struct Returned<'a> {
     receivers: Vec<usize>,
     levels: Vec<i32>,
     drainage: Vec<u32>,
+    wet: &'a [u8],
 }
 
 /// Judges a network record that was returned for a ground. An error says what is wrong.
@@ -20,11 +22,12 @@ pub fn judge(ground: &Ground, network: &[u8]) -> Result<(), String> {
     judge_steps(ground, &returned.receivers)?;
     judge_ways(ground, &returned.receivers, &least)?;
     judge_levels(&returned.levels, &least)?;
+    judge_wet(ground, returned.wet, &least)?;
     judge_drainage(ground, &returned)
 }
 
-/// Reads three sections straight from their stretches of the record.
-fn read(ground: &Ground, network: &[u8]) -> Returned {
+/// Reads four sections straight from their stretches of the record.
+fn read<'a>(ground: &Ground, network: &'a [u8]) -> Returned<'a> {
     let cells = ground.size.cells();
     let receivers = network[..2 * cells]
         .chunks_exact(2)
@@ -39,6 +42,7 @@ fn read(ground: &Ground, network: &[u8]) -> Returned {
         receivers,
         levels: four(6).map(|level| level as i32).collect(),
         drainage: four(10).collect(),
+        wet: &network[14 * cells..15 * cells],
     }
 }
 
@@ -98,6 +102,18 @@ fn judge_levels(levels: &[i32], least: &[i32]) -> Result<(), String> {
         Some(cell) => Err(format!(
             "the level of cell {cell} is {}, and its least highest point {}",
             levels[cell], least[cell]
+        )),
+    }
+}
+
+/// A cell's entry is 1 where its least highest point is above its own ground, and 0 elsewhere.
+fn judge_wet(ground: &Ground, wet: &[u8], least: &[i32]) -> Result<(), String> {
+    let wanted = |cell: usize| u8::from(least[cell] > ground.heights[cell]);
+    match (0..wet.len()).find(|&cell| wet[cell] != wanted(cell)) {
+        None => Ok(()),
+        Some(cell) => Err(format!(
+            "the wet entry of cell {cell} is {}, its height {} and its least highest point {}",
+            wet[cell], ground.heights[cell], least[cell]
         )),
     }
 }
@@ -181,12 +197,14 @@ mod tests {
         bytes.extend([0; 24]);
         bytes.extend(levels.iter().flat_map(|level| level.to_le_bytes()));
         bytes.extend(drainage.iter().flat_map(|sum| sum.to_le_bytes()));
+        bytes.extend(WET);
         bytes
     }
 
     const RECEIVERS: [u16; 6] = [0, 2, 3, 4, 5, 5];
     const LEVELS: [i32; 6] = [7, 5, 5, 5, 5, 0];
     const DRAINAGE: [u32; 6] = [1, 1, 2, 3, 4, 5];
+    const WET: [u8; 6] = [0, 1, 1, 1, 0, 0];
 
     #[test]
     fn sample_g_is_accepted() {
@@ -219,6 +237,31 @@ mod tests {
     fn a_level_too_high_is_refused() {
         let too_high = network(RECEIVERS, [7, 7, 5, 5, 5, 0], DRAINAGE);
         assert!(judge(&ground(), &too_high).unwrap_err().contains("level"));
+    }
+
+    #[test]
+    fn a_wrong_wet_entry_is_refused() {
+        let right = network(RECEIVERS, LEVELS, DRAINAGE);
+        for cell in 0..6 {
+            let mut wrong = right.clone();
+            wrong[14 * 6 + cell] ^= 1;
+            assert!(judge(&ground(), &wrong).unwrap_err().contains("wet"));
+        }
+    }
+
+    /// Where document 01's rule 10 and W-201's differ.
+    #[test]
+    fn a_wet_meadow_is_refused() {
+        let level = Ground {
+            heights: vec![0; 6],
+            marks: vec![1, 0, 0, 0, 0, 0],
+            ..ground()
+        };
+        let mut bytes = network([0, 0, 1, 2, 3, 4], [0; 6], [6, 5, 4, 3, 2, 1]);
+        bytes[14 * 6..].fill(0);
+        assert_eq!(judge(&level, &bytes), Ok(()));
+        bytes[14 * 6 + 1..].fill(1);
+        assert!(judge(&level, &bytes).unwrap_err().contains("wet"));
     }
 
     #[test]

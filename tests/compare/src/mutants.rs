@@ -84,6 +84,7 @@ struct Stages {
     order: fn(&[Cell]) -> Vec<Cell>,
     levels: fn(&[Cell], &[Cell], &Ground) -> Vec<i32>,
     drainage: fn(&[Cell], &Ground) -> Vec<u32>,
+    /// Rule 10 needs no receivers; wrong ones of document 01's kind do.
     wet: fn(&[Cell], &[i32], &Ground) -> Vec<u8>,
 }
 
@@ -100,7 +101,7 @@ const RIGHT: Stages = Stages {
     order,
     levels,
     drainage,
-    wet,
+    wet: |_, levels, ground| wet(levels, ground),
 };
 
 /// The C call with these stages.

@@ -68,13 +68,23 @@ pub const MUTANTS: &[Mutant<Library>] = mutants![
         drainage.map(|sum| sum & 0xFFFF).collect()
     }),
     "rule 9: the outlets' own water left out" => with!(drainage: without_outlets_water),
-    "rule 10: wet where the level is above the height" => with!(wet: |_, levels, ground| {
-        let both = levels.iter().zip(&ground.heights);
-        both.map(|(level, height)| u8::from(level > height)).collect()
+    "rule 10: document 01's, a meadow is wet" => with!(wet: |receivers, levels, ground| {
+        let as_receiver = |cell: Cell| {
+            levels[cell.index()] == levels[receivers[cell.index()].index()]
+        };
+        ground.cells().map(|cell| u8::from(as_receiver(cell) && !ground.is_outlet(cell))).collect()
     }),
-    "rule 10: outlets are wet too" => with!(wet: |receivers, levels, _| {
+    "rule 10: wet where the level is at least the height" => with!(wet: |_, levels, ground| {
+        let both = levels.iter().zip(&ground.heights);
+        both.map(|(level, height)| u8::from(level >= height)).collect()
+    }),
+    "rule 10: the level above the receiver's height" => with!(wet: |receivers, levels, ground| {
         let both = levels.iter().zip(receivers);
-        both.map(|(&level, receiver)| u8::from(level == levels[receiver.index()])).collect()
+        both.map(|(&level, &receiver)| u8::from(level > ground.height(receiver))).collect()
+    }),
+    "rule 10: levels and heights compared as unsigned numbers" => with!(wet: |_, levels, ground| {
+        let both = levels.iter().zip(&ground.heights);
+        both.map(|(&level, &height)| u8::from(level as u32 > height as u32)).collect()
     }),
 ];
 
