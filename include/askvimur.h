@@ -143,7 +143,7 @@ static inline uint32_t askvimur_drainage(const uint8_t *network, size_t cells, s
 }
 
 /* 1 for a wet cell, one whose level is greater than its height in the ground record; 0 for any other. An outlet is never wet, nor is
- * level ground whose water runs off without a climb. */
+ * level ground whose water runs off without a climb. Records stored before W-201 called such ground wet: work them out anew. */
 static inline uint8_t askvimur_wet(const uint8_t *network, size_t cells, size_t cell) { return network[14 * cells + cell]; }
 
 /* ---- C++ ---------------------------------------------------------------------------------------------------------------------- */
