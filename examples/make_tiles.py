@@ -1,5 +1,6 @@
 #!/usr/bin/env python3
-"""Writes the ground records of examples/tiles: the sample tiles A to G, the valley, the meadow, and one record for each refusal.
+"""Writes the ground records of examples/tiles: the sample tiles A to G, the valley, the meadow, two lakes, a lake that is too deep to be
+listed, and one record for each refusal of a ground.
 
 The records are kept beside this script; run it to see how a ground record is made, or to make one of your own.
 """
@@ -72,6 +73,37 @@ def meadow():
     return ground_record(width, height, heights, marks, [1] * (width * height))
 
 
+def two_lakes():
+    """A lake in the west that becomes two when its water sinks to 120, a level meadow, and a pond in the east that never splits."""
+    rows = [
+        [150, 150, 150, 150, 150, 130, 130, 110, 110, 110],
+        [150, 80, 120, 90, 150, 130, 130, 110, 70, 110],
+        [150, 80, 120, 90, 150, 130, 130, 110, 70, 110],
+        [150, 80, 120, 90, 140, 130, 130, 110, 60, 110],
+        [150, 150, 150, 150, 150, 130, 130, 110, 110, 100],
+        [150, 150, 150, 150, 150, 130, 130, 110, 110, 90],
+    ]
+    heights = sum(rows, [])
+    outlet = len(heights) - 1
+    return ground_record(10, 6, heights, [int(cell == outlet) for cell in range(60)], [1] * 60)
+
+
+def deep():
+    """A corridor winds down between walls, from an outlet past 65 pits with a sill between each two. The sills rise towards the outlet, so
+    that sinking water leaves one pit after the other: a lake 65 deep, and 64 is the most that a list of lakes takes."""
+    width, height, pits = 12, 21, 65
+    path = []
+    for y in range(height):
+        turn = [width - 1] if y % 4 == 1 else [0]
+        across = turn if y % 2 else range(width) if y % 4 == 0 else reversed(range(width))
+        path += [y * width + x for x in across]
+    heights = [1000] * (width * height)
+    for place, cell in enumerate(path[: 2 * pits]):
+        heights[cell] = 0 if place % 2 else 10 * (pits - place // 2)
+    marks = [int(cell == path[0]) for cell in range(width * height)]
+    return ground_record(width, height, heights, marks, [1] * (width * height))
+
+
 def refusals():
     good = row([0, 3, 1], {0})
     yield "refused_1_size", good[:-16] + struct.pack("<HH", 0, 1) + good[-12:]
@@ -84,6 +116,7 @@ def refusals():
 
 if __name__ == "__main__":
     os.makedirs(FOLDER, exist_ok=True)
-    for name, record in [*samples(), ("valley", valley()), ("meadow", meadow()), *refusals()]:
+    scenes = [("valley", valley()), ("meadow", meadow()), ("two_lakes", two_lakes()), ("deep", deep())]
+    for name, record in [*samples(), *scenes, *refusals()]:
         with open(os.path.join(FOLDER, name + ".ground"), "wb") as file:
             file.write(record)

@@ -6,8 +6,9 @@
 #   $cc, $cxx           the C and the C++ compiler for x86-64
 #   $objdump, $nm, $ar  what reads their objects and archives
 #   on_x86_64 PROGRAM   runs a program that they built
-#   build_library       proves and builds target/staticlib/libaskvimur.a, where the one that is there is older than the proof
-#   reach_library       the same for programs in Rust: the array `features` is for cargo, and the environment has the rest
+#   build_library CRATE...  proves and builds target/staticlib/libCRATE.a for each, where the one that is there is older than the proof;
+#                       with no crate, the console's
+#   reach_library       the same for programs in Rust, and all libraries: the array `features` is for cargo, and the environment has the rest
 if [ "$(uname -m)" = x86_64 ]; then
   native=yes
   cc=gcc
@@ -76,21 +77,23 @@ starter() {
 }
 
 build_library() {
-  local said
-  prove askvimur || return 1
-  [ target/staticlib/libaskvimur.a -nt target/stamp/askvimur ] && return
-  said=$(rt staticlib askvimur 2>&1) || { echo "$said"; return 1; }
+  local crate said
+  for crate in "${@:-askvimur}"; do
+    prove "$crate" || return 1
+    [ "target/staticlib/lib$crate.a" -nt "target/stamp/$crate" ] && continue
+    said=$(rt staticlib "$crate" 2>&1) || { echo "$said"; return 1; }
+  done
 }
 
 reach_library() {
   features=()
-  build_library || return 1
+  build_library askvimur askvimur_service || return 1
   if [ "$native" = yes ]; then
     export ASKVIMUR_LIB=$PWD/target/staticlib
     features=(--features linked)
   else
     "$cxx" -std=c++20 -O2 -Wall -Wextra -Werror -Iinclude tests/compare/emulated/call.cpp target/staticlib/libaskvimur.a \
-      -o target/call || return 1
+      target/staticlib/libaskvimur_service.a -o target/call || return 1
     write_starter target/start-call "$emulator -L /usr/x86_64-linux-gnu \"$PWD/target/call\""
     export ASKVIMUR_CALL=$PWD/target/start-call
   fi

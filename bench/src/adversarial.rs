@@ -1,4 +1,5 @@
-//! The adversarial tiles: 64 by 64, each family made to be slow. They are measured apart from the mix, tile by tile.
+//! The adversarial tiles: 64 by 64, each family made to be slow. They are measured apart from the mix, tile by tile. Those here are for
+//! the network; `slow_lakes.rs` has the families for lakes.
 
 use compare::chance::Chance;
 use compare::families;
@@ -16,7 +17,7 @@ pub struct Family {
     outlets: Outlets,
 }
 
-const fn family(name: &'static str, relief: Relief, outlets: Outlets) -> Family {
+pub const fn family(name: &'static str, relief: Relief, outlets: Outlets) -> Family {
     Family {
         name,
         relief,
@@ -67,19 +68,20 @@ pub const TILES_OF_EACH: usize = 16;
 /// The stream of chance that the tiles come from.
 const SEED: u64 = 204;
 
-/// All adversarial tiles, family by family. Each call gives the same.
-pub fn tiles() -> Vec<Tile> {
-    let all = (0..FAMILIES.len())
+/// All tiles of these families, one family after the other. Each call gives the same.
+pub fn tiles_of(families: &[Family]) -> Vec<Tile> {
+    let all = (0..families.len())
         .flat_map(|family| (0..TILES_OF_EACH).map(move |number| (family, number)));
-    all.map(|(family, number)| tile(family, number)).collect()
+    all.map(|(family, number)| tile(families, family, number))
+        .collect()
 }
 
 /// One tile of a family.
-pub fn tile(family: usize, number: usize) -> Tile {
+fn tile(families: &[Family], family: usize, number: usize) -> Tile {
     let mut chance = Chance::of_case(SEED, (family * TILES_OF_EACH + number) as u64);
     let Family {
         relief, outlets, ..
-    } = FAMILIES[family];
+    } = families[family];
     let ground = families::ground(&mut chance, SIZE, relief, outlets);
     Tile {
         family,
@@ -93,7 +95,7 @@ mod tests {
 
     #[test]
     fn every_tile_is_accepted_and_64_by_64() {
-        for tile in tiles() {
+        for tile in tiles_of(&FAMILIES) {
             let ground = record::check(&tile.record);
             assert!(ground.is_ok(), "{}", FAMILIES[tile.family].name);
             assert_eq!(tile.record.len(), 7 * 4_096 + 16);
@@ -105,13 +107,14 @@ mod tests {
         let records = |tiles: Vec<Tile>| -> Vec<Vec<u8>> {
             tiles.into_iter().map(|tile| tile.record).collect()
         };
-        assert!(records(tiles()) == records(tiles()));
+        assert!(records(tiles_of(&FAMILIES)) == records(tiles_of(&FAMILIES)));
     }
 
     #[test]
     fn each_family_has_its_tiles() {
         for family in 0..FAMILIES.len() {
-            let count = tiles().iter().filter(|tile| tile.family == family).count();
+            let tiles = tiles_of(&FAMILIES);
+            let count = tiles.iter().filter(|tile| tile.family == family).count();
             assert_eq!(count, TILES_OF_EACH);
         }
     }
@@ -123,7 +126,7 @@ mod tests {
             .position(|family| family.name == name)
             .unwrap();
         (0..TILES_OF_EACH)
-            .map(|number| longest_way_of(&tile(family, number)))
+            .map(|number| longest_way_of(&tile(&FAMILIES, family, number)))
             .max()
             .unwrap()
     }

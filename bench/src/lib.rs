@@ -1,7 +1,9 @@
-//! The benchmark's parts: the plain version, the tiles of both tables, and the clock. The programs put them together.
+//! The benchmark's parts: the plain versions, the tiles of both tables, and the clock. The programs put them together.
 
 pub mod adversarial;
 pub mod plain;
+pub mod plain_lakes;
 pub mod race;
+pub mod slow_lakes;
 pub mod slow_reliefs;
 pub mod tiles;

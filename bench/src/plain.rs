@@ -11,9 +11,9 @@ const NONE: u32 = u32::MAX;
 /// The lists that are kept between tiles.
 #[derive(Default)]
 pub struct Plain {
-    width: usize,
-    height: usize,
-    heights: Vec<i32>,
+    pub(crate) width: usize,
+    pub(crate) height: usize,
+    pub(crate) heights: Vec<i32>,
     /// First receivers, later receivers. A singular cell has its own number.
     receivers: Vec<u16>,
     basins: Vec<u16>,
@@ -28,7 +28,7 @@ pub struct Plain {
     giver_starts: Vec<u16>,
     givers: Vec<u16>,
     order: Vec<u16>,
-    levels: Vec<i32>,
+    pub(crate) levels: Vec<i32>,
     drainage: Vec<u32>,
 }
 
@@ -48,20 +48,28 @@ fn u32_at(bytes: &[u8], at: usize) -> u32 {
     u32::from_le_bytes([bytes[at], bytes[at + 1], bytes[at + 2], bytes[at + 3]])
 }
 
-fn refused(number: u32, place: usize) -> u32 {
+pub(crate) fn refused(number: u32, place: usize) -> u32 {
     number * 65_536 + place as u32
 }
 
 impl Plain {
     /// The C call: refusal number times 65,536 plus place, or the length written.
     pub fn call(&mut self, ground: &[u8], network: &mut [u8]) -> u32 {
-        match self.read(ground, network.len()) {
+        match self.work_out(ground, network.len()) {
             Ok(()) => {}
             Err(refusal) => return refusal,
         }
         let cells = self.width * self.height;
+        self.find_drainage(&ground[5 * cells..7 * cells]);
+        self.write(&mut network[..15 * cells + 28]);
+        (15 * cells + 28) as u32
+    }
+
+    /// All of the network but the drainage, or why the ground or the room is refused.
+    pub(crate) fn work_out(&mut self, ground: &[u8], room: usize) -> Result<(), u32> {
+        self.read(ground, room)?;
+        let cells = self.width * self.height;
         let marks = &ground[4 * cells..5 * cells];
-        let water = &ground[5 * cells..7 * cells];
         self.find_first_receivers(marks);
         self.label_basins();
         self.find_crossings();
@@ -69,9 +77,7 @@ impl Plain {
         self.carve(marks);
         self.find_order();
         self.find_levels();
-        self.find_drainage(water);
-        self.write(&mut network[..15 * cells + 28]);
-        (15 * cells + 28) as u32
+        Ok(())
     }
 
     /// Judges the record and the room, and keeps size and heights.
@@ -364,17 +370,17 @@ fn write_u16(section: &mut [u8], entries: &[u16]) {
     }
 }
 
-/// Union-find over basins, by size and with halved ways.
+/// Union-find over basins or cells, by size and with halved ways.
 #[derive(Default)]
-struct Groups {
+pub(crate) struct Groups {
     parents: Vec<u16>,
     sizes: Vec<u16>,
     count: usize,
 }
 
 impl Groups {
-    /// Each basin a group of its own.
-    fn start(&mut self, count: usize) {
+    /// So many numbers, each a group of its own.
+    pub(crate) fn start(&mut self, count: usize) {
         self.parents.clear();
         self.parents.extend(0..count as u16);
         self.sizes.clear();
@@ -382,17 +388,17 @@ impl Groups {
         self.count = count;
     }
 
-    fn root(&mut self, mut basin: u16) -> u16 {
-        while self.parents[usize::from(basin)] != basin {
-            let parent = self.parents[usize::from(basin)];
-            self.parents[usize::from(basin)] = self.parents[usize::from(parent)];
-            basin = parent;
+    pub(crate) fn root(&mut self, mut number: u16) -> u16 {
+        while self.parents[usize::from(number)] != number {
+            let parent = self.parents[usize::from(number)];
+            self.parents[usize::from(number)] = self.parents[usize::from(parent)];
+            number = parent;
         }
-        basin
+        number
     }
 
     /// Makes one group of two. False if they were one already.
-    fn join(&mut self, one: u16, other: u16) -> bool {
+    pub(crate) fn join(&mut self, one: u16, other: u16) -> bool {
         let (mut large, mut small) = (self.root(one), self.root(other));
         if large == small {
             return false;
@@ -410,7 +416,7 @@ impl Groups {
 #[cfg(test)]
 mod tests {
     use super::*;
-    use compare::cases::specimen;
+    use compare::cases;
     use compare::exhaustive;
     use second::{network_record, record};
 
@@ -419,7 +425,7 @@ mod tests {
     fn the_plain_version_agrees_with_the_second_program() {
         let mut plain = Plain::default();
         for index in 0..10_000 {
-            let specimen = specimen(11, index);
+            let specimen = cases::NETWORK.specimen(11, index);
             for &room in &specimen.rooms {
                 let (mut found, mut wanted) = (vec![0xA5; room], vec![0xA5; room]);
                 let answer = plain.call(&specimen.record, &mut found);

@@ -1,4 +1,4 @@
-//! The clock: our call and the plain version in turn on each tile, in one process. Each tile's time is the least of several runs, and
+//! The clock: a call of ours and its plain version in turn on each tile, in one process. Each tile's time is the least of several runs, and
 //! all other tiles are run between two runs of the same one: a busy machine spoils some runs, and no processor learns a tile by heart.
 
 use std::time::{Duration, Instant};
@@ -6,10 +6,11 @@ use std::time::{Duration, Instant};
 use compare::library::{under_test, Library};
 
 use crate::plain::Plain;
+use crate::plain_lakes::PlainLakes;
 use crate::tiles::Tile;
 
-/// The length of the network record of a 64 by 64 tile.
-const ROOM: usize = 61_468;
+/// Room for every network record, and for every list of lakes.
+const ROOM: usize = 65_536;
 
 /// The least time of each side on one tile.
 #[derive(Clone, Copy)]
@@ -64,61 +65,83 @@ impl Times {
     }
 }
 
+/// A call as the plain version makes it, with lists that it keeps.
+type PlainCall = Box<dyn FnMut(&[u8], &mut [u8]) -> u32>;
+
 /// Both sides, each with a room of its own.
 pub struct Race {
     ours: Library,
-    plain: Plain,
+    plain: PlainCall,
     our_room: Vec<u8>,
     plain_room: Vec<u8>,
     rounds: usize,
 }
 
-impl Default for Race {
-    fn default() -> Race {
+impl Race {
+    /// The network of a tile.
+    pub fn network() -> Race {
+        let mut plain = Plain::default();
+        let plain = move |ground: &[u8], room: &mut [u8]| plain.call(ground, room);
+        Race::of(under_test().askvimur_network, Box::new(plain))
+    }
+
+    /// The lakes of a tile.
+    pub fn lakes() -> Race {
+        let mut plain = PlainLakes::default();
+        let plain = move |ground: &[u8], room: &mut [u8]| plain.call(ground, room);
+        Race::of(under_test().askvimur_lakes, Box::new(plain))
+    }
+
+    fn of(ours: Library, plain: PlainCall) -> Race {
         Race {
-            ours: under_test(),
-            plain: Plain::default(),
+            ours,
+            plain,
             our_room: vec![0; ROOM],
             plain_room: vec![0; ROOM],
             rounds: 0,
         }
     }
-}
 
-impl Race {
     /// One run of both sides on every tile. Who goes first changes from tile to tile, and on each tile from round to round.
     pub fn round(&mut self, tiles: &[Tile], best: &mut [Best]) {
         self.rounds += 1;
         for (index, (tile, best)) in tiles.iter().zip(best).enumerate() {
-            if (index + self.rounds) % 2 == 0 {
-                best.ours = best.ours.min(self.time_ours(&tile.record));
-                best.plain = best.plain.min(self.time_plain(&tile.record));
-            } else {
-                best.plain = best.plain.min(self.time_plain(&tile.record));
-                best.ours = best.ours.min(self.time_ours(&tile.record));
-            }
+            let (ours, plain) = match (index + self.rounds) % 2 {
+                0 => {
+                    let ours = timed(&mut self.ours, &tile.record, &mut self.our_room);
+                    (
+                        ours,
+                        timed(&mut self.plain, &tile.record, &mut self.plain_room),
+                    )
+                }
+                _ => {
+                    let plain = timed(&mut self.plain, &tile.record, &mut self.plain_room);
+                    (
+                        timed(&mut self.ours, &tile.record, &mut self.our_room),
+                        plain,
+                    )
+                }
+            };
             assert!(
-                self.our_room == self.plain_room,
+                ours.answer == plain.answer && self.our_room == self.plain_room,
                 "the two sides differ on tile {index} of the round"
             );
+            best.ours = best.ours.min(ours.time);
+            best.plain = best.plain.min(plain.time);
         }
     }
+}
 
-    fn time_ours(&mut self, record: &[u8]) -> Duration {
-        self.our_room.fill(0);
-        let start = Instant::now();
-        let answer = (self.ours)(record, &mut self.our_room);
-        let time = start.elapsed();
-        assert_eq!(answer as usize, ROOM);
-        time
-    }
+/// What one run of one side came to.
+struct Run {
+    answer: u32,
+    time: Duration,
+}
 
-    fn time_plain(&mut self, record: &[u8]) -> Duration {
-        self.plain_room.fill(0);
-        let start = Instant::now();
-        let answer = self.plain.call(record, &mut self.plain_room);
-        let time = start.elapsed();
-        assert_eq!(answer as usize, ROOM);
-        time
-    }
+fn timed(call: &mut impl FnMut(&[u8], &mut [u8]) -> u32, record: &[u8], room: &mut [u8]) -> Run {
+    room.fill(0);
+    let start = Instant::now();
+    let answer = call(record, room);
+    let time = start.elapsed();
+    Run { answer, time }
 }

@@ -13,6 +13,10 @@ pub mod first_receivers;
 pub mod flow;
 pub mod follow;
 pub mod ground;
+pub mod groups;
+pub mod lake_list;
+pub mod lakes;
+pub mod lakes_text;
 pub mod network;
 pub mod network_record;
 pub mod passes;
@@ -21,5 +25,7 @@ pub mod record;
 pub mod refusal;
 pub mod text;
 pub mod trace;
+pub mod vectors;
 
 pub use call::call;
+pub use lake_list::lakes_call;

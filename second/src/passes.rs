@@ -2,6 +2,7 @@
 
 use crate::basins::Basins;
 use crate::ground::{Basin, Cell, Ground};
+use crate::groups::Groups;
 
 /// Two neighbours in different basins.
 /// The order of the fields is the order of comparison: height, lesser cell, greater cell.
@@ -51,53 +52,25 @@ pub fn pair(crossing: Crossing, basins: &Basins) -> (Basin, Basin) {
 
 /// Rule 4: the chosen passes, out of all passes in ascending order.
 pub fn chosen_passes(passes: &[Crossing], basins: &Basins, ground: &Ground) -> Vec<Crossing> {
-    let mut groups = Groups::with_outlet_basins_joined(basins, ground);
+    let mut groups = outlet_basins_joined(basins, ground);
     let mut chosen = Vec::new();
     for &pass in passes {
         let (one, other) = pair(pass, basins);
-        if !groups.joined(one, other) {
+        if !groups.joined(one.index(), other.index()) {
             chosen.push(pass);
-            groups.join(one, other);
+            groups.join(one.index(), other.index());
         }
     }
     chosen
 }
 
-/// Basins with the same label: those that a chain of the passes seen so far joins.
-struct Groups {
-    /// The label of each basin: the number of one of its group.
-    labels: Vec<Basin>,
-    /// The basins with each label.
-    members: Vec<Vec<Basin>>,
-}
-
-impl Groups {
-    fn with_outlet_basins_joined(basins: &Basins, ground: &Ground) -> Groups {
-        let is_outlet_basin = |basin: &Basin| ground.is_outlet(basins.singular_cell(*basin));
-        let mut groups = Groups {
-            labels: basins.all().collect(),
-            members: basins.all().map(|basin| vec![basin]).collect(),
-        };
-        let mut outlet_basins = basins.all().filter(is_outlet_basin);
-        if let Some(first) = outlet_basins.next() {
-            outlet_basins.for_each(|basin| groups.join(first, basin));
-        }
-        groups
+/// Groups of basins before the first pass: all outlet basins in one, every other basin by itself.
+fn outlet_basins_joined(basins: &Basins, ground: &Ground) -> Groups {
+    let is_outlet_basin = |basin: &Basin| ground.is_outlet(basins.singular_cell(*basin));
+    let mut groups = Groups::apart(basins.count());
+    let mut outlet_basins = basins.all().filter(is_outlet_basin);
+    if let Some(first) = outlet_basins.next() {
+        outlet_basins.for_each(|basin| groups.join(first.index(), basin.index()));
     }
-
-    fn joined(&self, one: Basin, other: Basin) -> bool {
-        self.labels[one.index()] == self.labels[other.index()]
-    }
-
-    /// Gives all of one group the label of the other. The smaller one changes, to save time.
-    fn join(&mut self, one: Basin, other: Basin) {
-        let (mut kept, mut given_up) = (self.labels[one.index()], self.labels[other.index()]);
-        if self.members[kept.index()].len() < self.members[given_up.index()].len() {
-            (kept, given_up) = (given_up, kept);
-        }
-        for basin in std::mem::take(&mut self.members[given_up.index()]) {
-            self.labels[basin.index()] = kept;
-            self.members[kept.index()].push(basin);
-        }
-    }
+    groups
 }

@@ -11,7 +11,7 @@ pub enum Refusal {
     Length,
     /// 7: a distance in the trailer is wrong.
     Distance,
-    /// 3: an output list or record is too short.
+    /// 3: an output list or record is too short. For the list of lakes it comes after 10.
     Room,
     /// 4: a height is out of range, at the first such cell.
     Height(Cell),
@@ -19,6 +19,8 @@ pub enum Refusal {
     Mark(Cell),
     /// 6: no outlet.
     NoOutlet,
+    /// 10: an outermost lake of depth above 64. This is the least cell of the first such lake.
+    Depth(Cell),
     /// 8: the traced cell number is not below the list's length.
     TracedCell,
     /// 9: the trace meets an entry not below the list's length, in this cell.
@@ -36,6 +38,7 @@ impl Refusal {
             Refusal::Height(_) => 4,
             Refusal::Mark(_) => 5,
             Refusal::NoOutlet => 6,
+            Refusal::Depth(_) => 10,
             Refusal::TracedCell => 8,
             Refusal::TracedEntry(_) => 9,
         }
@@ -44,9 +47,10 @@ impl Refusal {
     /// The place in the table's last column.
     pub fn place(self) -> u32 {
         match self {
-            Refusal::Height(cell) | Refusal::Mark(cell) | Refusal::TracedEntry(cell) => {
-                u32::from(cell.0)
-            }
+            Refusal::Height(cell)
+            | Refusal::Mark(cell)
+            | Refusal::Depth(cell)
+            | Refusal::TracedEntry(cell) => u32::from(cell.0),
             _ => 0,
         }
     }

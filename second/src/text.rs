@@ -21,7 +21,7 @@ pub fn refused(refusal: Refusal) -> String {
 }
 
 /// Too long an input is refused before anything in it is judged.
-fn judged(input: &[u8]) -> Result<Ground, Refusal> {
+pub fn judged(input: &[u8]) -> Result<Ground, Refusal> {
     if input.len() > record::LARGEST {
         return Err(Refusal::Length);
     }

@@ -1,15 +1,17 @@
-//! Both programs stop reading in time: one byte more than the longest input is read, so that endless input ends.
+//! All programs stop reading in time: one byte more than the longest input is read, so that endless input ends.
 
 use std::io::{self, Read, Write};
 
 use second::drain::drain;
 use second::follow::follow;
+use second::lakes_text::print_lakes;
 
 type Program = fn(&mut dyn Read, &mut dyn Write) -> io::Result<()>;
 
 /// Each program, and the most bytes that it reads.
-const PROGRAMS: [(Program, u64); 2] = [
+const PROGRAMS: [(Program, u64); 3] = [
     (|input, output| drain(input, output), 28_689),
+    (|input, output| print_lakes(input, output), 28_689),
     (|input, output| follow(input, output), 8_201),
 ];
 

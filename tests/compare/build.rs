@@ -1,4 +1,4 @@
-//! Tells the linker where `libaskvimur.a` is when the feature `linked` is on.
+//! Tells the linker where the libraries are when the feature `linked` is on.
 
 use std::env;
 use std::path::Path;
@@ -10,9 +10,11 @@ fn main() {
         return;
     }
     let folder = env::var("ASKVIMUR_LIB")
-        .expect("the feature `linked` needs ASKVIMUR_LIB, the folder of libaskvimur.a");
-    let library = Path::new(&folder).join("libaskvimur.a");
-    assert!(library.is_file(), "no library at {}", library.display());
-    println!("cargo:rerun-if-changed={}", library.display());
+        .expect("the feature `linked` needs ASKVIMUR_LIB, the folder of the libraries");
+    for name in ["libaskvimur.a", "libaskvimur_service.a"] {
+        let library = Path::new(&folder).join(name);
+        assert!(library.is_file(), "no library at {}", library.display());
+        println!("cargo:rerun-if-changed={}", library.display());
+    }
     println!("cargo:rustc-link-search=native={folder}");
 }

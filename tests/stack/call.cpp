@@ -1,16 +1,19 @@
-// The stack that the console's call takes, on every tile of the standard input, which bench's program `tiles` writes.
+// The stack that a C call takes, on every tile of the standard input, which bench's program `tiles` writes.
 // Prints the greatest figure of each family and of all; the exit status is 1 if it is above the bound.
 // With --self-check the measure itself is tried, on functions that take a known number of bytes.
-// usage: call BOUND | call --self-check BOUND (in bytes)
+// usage: call network BOUND | call lakes BOUND | call --self-check BOUND (in bytes)
+#include <algorithm>
 #include <cstdint>
 #include <cstdio>
 #include <cstdlib>
 #include <iostream>
+#include <iterator>
 #include <map>
 #include <string>
 #include <vector>
 
 #include "askvimur.h"
+#include "askvimur_service.h"
 #include "painted.hpp"
 
 namespace {
@@ -33,12 +36,23 @@ bool read(std::istream& in, Tile& tile) {
     return true;
 }
 
-std::size_t bytes_of_call(const Tile& tile) {
-    static std::uint8_t network[ASKVIMUR_MAX_NETWORK_BYTES];
+// One of the calls.
+struct Call {
+    std::string name;
+    std::uint32_t (*run)(const std::uint8_t*, std::size_t, std::uint8_t*, std::size_t);
+    std::uint32_t refusal;  // the one number that a sound tile may be refused with, 0 for none
+};
+
+constexpr std::uint32_t too_deep = 10;
+const Call calls[] = {{"network", askvimur_network, 0}, {"lakes", askvimur_lakes, too_deep}};
+
+std::size_t bytes_of_call(const Call& call, const Tile& tile) {
+    static std::uint8_t room[65536];  // enough for any network record and for any list of lakes
     std::uint32_t answer = 0;
-    const std::size_t bytes = painted::bytes_taken(
-        [&] { answer = askvimur_network(tile.record.data(), tile.record.size(), network, sizeof network); });
-    if (askvimur_number(answer) != ASKVIMUR_ACCEPTED) painted::give_up("a tile is refused");
+    const std::size_t bytes =
+        painted::bytes_taken([&] { answer = call.run(tile.record.data(), tile.record.size(), room, sizeof room); });
+    const std::uint32_t number = askvimur_number(answer);
+    if (number != ASKVIMUR_ACCEPTED && number != call.refusal) painted::give_up("a tile is refused");
     return bytes;
 }
 
@@ -52,11 +66,11 @@ struct Greatest {
     }
 };
 
-Greatest measure(std::istream& in) {
+Greatest measure(const Call& call, std::istream& in) {
     Greatest all;
     std::map<std::string, Greatest> families;
     for (Tile tile; read(in, tile);) {
-        const std::size_t bytes = bytes_of_call(tile);
+        const std::size_t bytes = bytes_of_call(call, tile);
         families[tile.family()].take(bytes, tile.name);
         all.take(bytes, tile.name);
     }
@@ -83,11 +97,12 @@ bool seen_as_it_is(std::size_t bound, bool is_above) {
 }  // namespace
 
 int main(int count, char** words) {
-    const bool self_check = count == 3 && std::string(words[1]) == "--self-check";
-    const std::size_t bound = count == 2 + self_check ? std::strtoul(words[count - 1], nullptr, 10) : 0;
-    if (bound == 0) painted::give_up("usage: call BOUND | call --self-check BOUND");
-    if (self_check) return seen_as_it_is<100 * 1024>(bound, false) && seen_as_it_is<200 * 1024>(bound, true) ? 0 : 1;
-    const Greatest greatest = measure(std::cin);
+    const std::string what = count == 3 ? words[1] : "";
+    const std::size_t bound = count == 3 ? std::strtoul(words[2], nullptr, 10) : 0;
+    if (what == "--self-check") return seen_as_it_is<100 * 1024>(bound, false) && seen_as_it_is<200 * 1024>(bound, true) ? 0 : 1;
+    const auto call = std::ranges::find(calls, what, &Call::name);
+    if (call == std::end(calls) || bound == 0) painted::give_up("usage: call network|lakes|--self-check BOUND");
+    const Greatest greatest = measure(*call, std::cin);
     std::printf("the call takes at most %zu bytes (%.1f KB) of stack, on %s; the bound is %zu\n", greatest.bytes,
                 static_cast<double>(greatest.bytes) / 1024, greatest.tile.c_str(), bound);
     return greatest.bytes == 0 || above(greatest.bytes, bound) ? 1 : 0;

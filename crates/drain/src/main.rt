@@ -102,16 +102,10 @@ fn drain_text(bytes: &[u8], text: &mut [u8]) -> usize
     requires { ⌜ mostText ≤ length (now text) ⌝ }
     ensures { λ r. ⌜ Printed (drainText (now (bytes .entry))) (now (text .entry)) (now (text .exit)) r ⌝ }
 {
-    if 28_688 < bytes.len() {
-        return text::write_refused(text, 2, 0);
-    }
-    let judged = ground::check_record(bytes);
+    let judged = record_text::judge_input(bytes);
     match judged {
         Judged::Accepted(width, height) => print_tile(bytes, width, height, text),
-        Judged::Refused(why) => {
-            let answer = Judged::Refused(why);
-            text::write_refused(text, ground::number(answer), ground::place(answer))
-        }
+        Judged::Refused(why) => record_text::write_refusal(text, why),
     }
 }
 

@@ -33,7 +33,7 @@ use Rattle.ground.specs.declared.Refusal.{Refusal}
 use Rattle.ground.specs.declared.Refusal.the-variants.{BadDistance, BadHeight, BadLength, BadMark, BadSize, NoOutlet, NoRoom}
 
 -- a test on the way to an acceptance held
-must-held : (t : Bool) (why : Refusal) (next : Judged) {w h : ℕ} → must t why next ≡ Accepted w h
+pub must-held : (t : Bool) (why : Refusal) (next : Judged) {w h : ℕ} → must t why next ≡ Accepted w h
     → (t ≡ true) × (next ≡ Accepted w h)
 must-held true why next e = (refl, e)
 must-held false why next e = absurd (let z : _≡_ {A = ℕ} 0 1 = cc in omega arith)

@@ -5,9 +5,11 @@ use mathlib.Core.List.{List·Memᴰ·eq-of-singleton as in-only, List·Memᴰ·h
 use mathlib.Core.List.{Memᴰ·append-left as in-left, Memᴰ·append-right as in-right, _++_, _∷_}
 use mathlib.Core.Logic.{inl, inr, _⊎_}
 use mathlib.Core.Path.{refl, _≡_}
-use Prim.Native.Nat.{ℕ, _<_}
+use Prim.Native.Nat.{ℕ, _<_, _≤_}
+use native.Mathlib.Omega.{arith}
 use lib.ListN.{length}
 use Rattle.groups.proofs.Merging.{ByJoin, joined-same, same-joined}
+use Rattle.groups.proofs.Roots.{root-below, root-is, root-self}
 use Rattle.groups.specs.Groups.{Down, Follows, Joined, rootOf, seenBy}
 use Rattle.lists.specs.Lists.{_∈_}
 use Rattle.rules.proofs.Chains.{across, by-one-edge, mono, none-joins, OneEdge, over, without, _then_}
@@ -20,6 +22,23 @@ module _ {E : Type 0} (G : Edges E) (old : List ℕ) where
   -- no edge yet
   pub follows-none : Down old → Follows G old [] old
   follows-none d = record { down = d; chained = λ a b h k e. here e; grouped = λ a b h k c. none-joins c }
+
+  -- a root is the least of its group: two lists that follow the same edges have the same roots
+  module _ {es : List E} where
+    least : {g h : List ℕ} → Follows G old es g → Follows G old es h → (c : ℕ) → c < length old → rootOf h c ≤ rootOf g c
+    least {g} {h} f k c l =
+        let r = rootOf g c in
+        let b : rootOf g c ≤ c = root-below g (f .down) c in
+        let i : r < length old = omega arith in
+        let e = k .grouped r c i l (f .chained r c i l (root-self g (f .down) r (root-is g (f .down) c))) in
+        let m : rootOf h r ≤ r = root-below h (k .down) r in
+        omega (arith, e)
+
+    pub follows-roots : {g h : List ℕ} → Follows G old es g → Follows G old es h → (c : ℕ) → c < length old → rootOf g c ≡ rootOf h c
+    follows-roots {g} {h} f k c l =
+        let a : rootOf h c ≤ rootOf g c = least f k c l in
+        let b : rootOf g c ≤ rootOf h c = least k f c l in
+        omega arith
 
   -- one edge more
   module _ (g h : List ℕ) (x : E) (es : List E) (i : G .one x < length old) (k : G .other x < length old)
@@ -39,7 +58,7 @@ module _ {E : Type 0} (G : Edges E) (old : List ℕ) where
     from a b p q (over c e) = inr (inl (f .grouped a (G .one x) p i c, f .grouped (G .other x) b k q e))
     from a b p q (across c e) = inr (inr (f .grouped a (G .other x) p k c, f .grouped (G .one x) b i q e))
 
-    follows-more : Follows G old (x ∷ es) h
+    pub follows-more : Follows G old (x ∷ es) h
     follows-more =
         record {
           down = j .down;

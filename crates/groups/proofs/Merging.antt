@@ -3,7 +3,7 @@
 use mathlib.Core.List.{List}
 use mathlib.Core.Logic.{inl, inr, _⊎_}
 use mathlib.Core.Path.{ap, refl, sym, _∙_, _≡_}
-use Prim.Native.Nat.{min, ℕ, _<_, _≤_}
+use Prim.Native.Nat.{max, min, ℕ, _<_, _≤_}
 use native.Mathlib.Nat.{le-refl, min-comm, min-eq-left}
 use native.Mathlib.Omega.{arith}
 use lib.Dec.{eqb}
@@ -14,11 +14,11 @@ use Rattle.groups.specs.Groups.{Down, Joined, merged, Root, rootOf, Same
 use Rattle.lists.proofs.Tests.{eq-or-ne, lt-or-ge, or-right}
 use Rattle.lists.specs.Lists.{at}
 
-merged-left : (p q : ℕ) → merged p q p ≡ min p q
+pub merged-left : (p q : ℕ) → merged p q p ≡ min p q
 unfolding merged
 merged-left p q = simp (eq-eqb p p refl)
 
-merged-right : (p q : ℕ) → merged p q q ≡ min p q
+pub merged-right : (p q : ℕ) → merged p q q ≡ min p q
 unfolding merged
 merged-right p q = rw (or-right (eqb q p) (eqb q q) (eq-eqb q q refl))
 
@@ -27,12 +27,12 @@ unfolding merged
 merged-else p q r a b = simp (ne-eqb r p a, ne-eqb r q b)
 
 -- where r stands to the two roots
-data Place (p q r : ℕ) : Type 0 where
+pub data Place (p q r : ℕ) : Type 0 where
   first : r ≡ p → Place p q r
   second : r ≡ q → Place p q r
   other : merged p q r ≡ r → (r ≡ p → ⊥) → (r ≡ q → ⊥) → Place p q r
 
-place : (p q r : ℕ) → Place p q r
+pub place : (p q r : ℕ) → Place p q r
 place p q r = go (eq-or-ne r p) (eq-or-ne r q)
   where
     go : (r ≡ p) ⊎ (r ≡ p → ⊥) → (r ≡ q) ⊎ (r ≡ q → ⊥) → Place p q r
@@ -83,11 +83,25 @@ module _ (g : List ℕ) (d : Down g) (lo hi : ℕ) (l : lo ≤ hi) (h : hi < len
   pub hung-over : Joined g hi lo (set g hi lo)
   hung-over = record { down = down-set g hi lo d h l; roots = λ x. hung x ∙ merged-comm (rootOf g lo) (rootOf g hi) (rootOf g x) }
 
+-- whichever of two roots is the greater
+pub hung-greater : (g : List ℕ) → Down g → (p q : ℕ) → Root g p → Root g q → Joined g p q (set g (max p q) (min p q))
+hung-greater g d p q i o = go (lt-or-ge p q)
+  where
+    go : (p < q) ⊎ (q ≤ p) → Joined g p q (set g (max p q) (min p q))
+    go (inl l) =
+        let m : min p q ≡ p = omega arith in
+        let n : max p q ≡ q = omega arith in
+        rw (m, n) (hung-under g d p q (omega arith) (o .0) (i .1) (o .1))
+    go (inr l) =
+        let m : min p q ≡ q = omega arith in
+        let n : max p q ≡ p = omega arith in
+        rw (m, n) (hung-over g d q p (omega arith) (i .0) (o .1) (i .1))
+
 -- a and b in one group after a join: in one before, or each with one of the two joined
 abbrev pub ByJoin : List ℕ → ℕ → ℕ → ℕ → ℕ → Type 0
 ByJoin g a b x y = SameGroup g x y ⊎ ((SameGroup g x a × SameGroup g b y) ⊎ (SameGroup g x b × SameGroup g a y))
 
-min-one : (p q : ℕ) → (min p q ≡ p) ⊎ (min p q ≡ q)
+pub min-one : (p q : ℕ) → (min p q ≡ p) ⊎ (min p q ≡ q)
 min-one p q = go (lt-or-ge p q)
   where
     go : (p < q) ⊎ (q ≤ p) → (min p q ≡ p) ⊎ (min p q ≡ q)

@@ -2,15 +2,15 @@
 -- Assumes nothing.
 use mathlib.Core.List.{[], append-assoc, append-nil, List, List·Memᴰ·append-cases as in-append}
 use mathlib.Core.List.{List·Memᴰ·head as in-head, List·Memᴰ·not-nil as in-none, List·Memᴰ·tail as in-tail}
-use mathlib.Core.List.{Memᴰ·append-left as in-left, Memᴰ·append-right as in-right, _++_, _∷_}
+use mathlib.Core.List.{Memᴰ·append-left as in-left, Memᴰ·append-right as in-right, map, _++_, _∷_}
 use mathlib.Core.Logic.{inl, inr, _⊎_}
 use mathlib.Core.Path.{ap, refl, subst, sym, _∙_, _≡_}
 use Prim.Native.Nat.{ℕ, _+_, _≤_}
-use native.Mathlib.Nat.{zero-add}
+use native.Mathlib.Nat.{le-refl, zero-add}
 use native.Mathlib.Omega.{arith}
 use lib.ListN.{length, length-append}
 use Rattle.lists.proofs.Range.{range-split}
-use Rattle.lists.specs.Lists.{flat, range, upto, _∈_}
+use Rattle.lists.specs.Lists.{flat, range, sum, upto, _∈_}
 
 module _ {A B : Type 0} where
   -- members, both ways
@@ -39,6 +39,15 @@ module _ {A B : Type 0} where
   pub flat-few : (f : A → List B) (l : List A) → ((x : A) → length (f x) ≤ 1) → length (flat f l) ≤ length l
   flat-few f [] h = omega arith
   flat-few f (x ∷ xs) h = omega (arith, h x, flat-few f xs h, length-append (f x) (flat f xs))
+
+-- lists no longer than the lists they are made of
+pub flat-length : {A B : Type 0} (f : List A → List B) (l : List (List A)) → ((x : List A) → x ∈ l → length (f x) ≤ length x)
+    → length (flat f l) ≤ sum (map length l)
+flat-length f [] h = le-refl 0
+flat-length f (x ∷ xs) h =
+    let a : length (f x) ≤ length x = h x (in-head refl) in
+    let b : length (flat f xs) ≤ sum (map length xs) = flat-length f xs (λ y m. h y (in-tail m)) in
+    omega (arith, length-append (f x) (flat f xs))
 
 -- the lists of one number more
 pub flat-next : {B : Type 0} (f : ℕ → List B) (n : ℕ) → flat f (upto (n + 1)) ≡ flat f (upto n) ++ f n

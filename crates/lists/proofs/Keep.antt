@@ -56,6 +56,11 @@ module _ {A : Type 0} where
   keep-all p [] h = refl
   keep-all p (x ∷ xs) h = rw (h x (in-head refl), keep-all p xs (λ y m. h y (in-tail m)))
 
+  -- none passes
+  pub keep-none : (p : A → Bool) (l : List A) → ((x : A) → x ∈ l → p x ≡ false) → keep p l ≡ []
+  keep-none p [] h = refl
+  keep-none p (x ∷ xs) h = rw (h x (in-head refl)) (keep-none p xs (λ y m. h y (in-tail m)))
+
   -- kept twice: what passes the first test passes the second
   keep-twice : (p q : A → Bool) (l : List A) → ((x : A) → x ∈ l → p x ≡ true → q x ≡ true) → keep p l ≡ keep p (keep q l)
   keep-twice p q [] f = refl

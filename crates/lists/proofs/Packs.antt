@@ -1,15 +1,18 @@
 -- Loops that write an entry and then count it or not: what isn't counted is overwritten.
 -- Assumes nothing.
-use mathlib.Core.Bool.{cond}
+use mathlib.Core.Bool.{Bool, cond}
 use mathlib.Core.List.{[], append-nil, List, _++_, _∷_}
-use mathlib.Core.Path.{ap, refl, sym, _∙_, _≡_}
+use mathlib.Core.Path.{ap, refl, subst, sym, _∙_, _≡_}
 use Prim.Native.Nat.{suc, zero, ℕ, _+_, _<_, _≤_}
-use native.Mathlib.Nat.{add-zero, le-refl}
+use native.Mathlib.Nat.{add-zero, le-refl, zero-add}
 use native.Mathlib.Numerals.{add-one}
 use native.Mathlib.Omega.{arith}
 use lib.Dec.{eqb}
 use lib.ListN.{length, length-append, set, take}
 use lib.Seq.{take-set-le, take-suc-set}
+use Rattle.lists.proofs.Keep.{keep-append}
+use Rattle.lists.proofs.Range.{range-split}
+use Rattle.lists.specs.Lists.{keep, range, upto}
 use Rattle.lists.specs.Stores.{Packs}
 
 -- an entry is written, and then counted or not
@@ -36,3 +39,15 @@ packs-bit {p} {l} {k} v b P h i =
 
 pub packs-none : (l : List ℕ) → Packs [] l 0
 packs-none l = record { count = refl; first = refl }
+
+-- the next number, written and then counted if it passes the test
+pub packs-next : (t : ℕ → Bool) {l : List ℕ} {k : ℕ} (m b : ℕ) → t m ≡ eqb b 1 → b ≤ 1 → k < length l → Packs (keep t (upto m)) l k
+    → Packs (keep t (upto (m + 1))) (set l k m) (k + b)
+packs-next t {l} {k} m b e i h P = subst (λ (p : List ℕ). Packs p (set l k m) (k + b)) (sym next) (packs-bit m b P h i)
+  where
+    next : keep t (upto (m + 1)) ≡ keep t (upto m) ++ cond (eqb b 1) (m ∷ []) []
+    next =
+        ap (keep t) (range-split 0 m 1)
+        ∙ keep-append t (upto m) (range (0 + m) 1)
+        ∙ ap (λ (z : ℕ). keep t (upto m) ++ cond (t z) (z ∷ []) []) (zero-add m)
+        ∙ ap (λ (s : Bool). keep t (upto m) ++ cond s (m ∷ []) []) e

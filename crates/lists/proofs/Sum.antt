@@ -1,4 +1,4 @@
--- Sums over lists: of parts, of the same elements in another order, taken the other way round, and their bounds.
+-- Sums over lists: of parts, of what is kept, of the same elements in another order, taken the other way round, and their bounds.
 -- Assumes nothing.
 use mathlib.Core.Bool.{Bool, cond, false, not, true}
 use mathlib.Core.List.{[], List, List·Memᴰ·cases-cons as in-cases, List·Memᴰ·head as in-head, List·Memᴰ·not-nil as in-none}
@@ -7,6 +7,7 @@ use mathlib.Core.Logic.{inl, inr, _⊎_}
 use mathlib.Core.Path.{ap, refl, subst, sym, _∙_, _≡_}
 use Prim.Native.Nat.{suc, zero-le, ℕ, _*_, _+_, _<_, _≤_}
 use native.Mathlib.Nat.{mul-suc, suc-mul, zero-add, zero-mul}
+use native.Mathlib.Numerals.{add-one}
 use native.Mathlib.Omega.{arith}
 use lib.Dec.{eqb}
 use lib.ListN.{length}
@@ -14,8 +15,9 @@ use borrow.Author.Tests.{eq-eqb, eqb-false, eqb-true, ne-eqb}
 use Rattle.lists.proofs.Keep.{keep-all, keep-holds, keep-member}
 use Rattle.lists.proofs.Map.{map-same}
 use Rattle.lists.proofs.Once.{once-keep}
+use Rattle.lists.proofs.Tab.{tab-suc}
 use Rattle.lists.proofs.Tests.{clash, is, isnt, known, Known, so-not}
-use Rattle.lists.specs.Lists.{at, flat, keep, Once, once-next, sum, _∈_}
+use Rattle.lists.specs.Lists.{at, flat, keep, Once, once-next, sum, tab, _∈_}
 
 sum-add : (f g : ℕ → ℕ) (l : List ℕ) → sum (map (λ x. f x + g x) l) ≡ sum (map f l) + sum (map g l)
 sum-add f g [] = refl
@@ -24,6 +26,11 @@ sum-add f g (x ∷ xs) = omega (arith, sum-add f g xs)
 sum-none : (l : List ℕ) → sum (map (λ (x : ℕ). 0) l) ≡ 0
 sum-none [] = refl
 sum-none (x ∷ xs) = omega (arith, sum-none xs)
+
+-- 1 for each
+pub sum-ones : (l : List ℕ) → sum (map (λ (x : ℕ). 1) l) ≡ length l
+sum-ones [] = refl
+sum-ones (x ∷ xs) = omega (arith, sum-ones xs)
 
 -- v for each that passes
 sum-if : (p : ℕ → Bool) (v : ℕ) (l : List ℕ) → sum (map (λ x. cond (p x) v 0) l) ≡ length (keep p l) * v
@@ -109,3 +116,44 @@ sum-most-at b [] h = zero-le
 sum-most-at b (x ∷ xs) h =
     let first : x ≤ b = h 0 (omega arith) in
     omega (arith, sum-most-at b xs (λ k l. h (suc k) (omega arith)), mul-suc b (length xs))
+
+module _ (f : ℕ → ℕ) (p : ℕ → Bool) where
+  pub sum-keep-le : (l : List ℕ) → sum (map f (keep p l)) ≤ sum (map f l)
+  sum-keep-le [] = omega arith
+  sum-keep-le (x ∷ xs) = go (p x) (sum-keep-le xs)
+    where
+      go : (b : Bool) → sum (map f (keep p xs)) ≤ sum (map f xs) → sum (map f (cond b (x ∷ keep p xs) (keep p xs))) ≤ f x + sum (map f xs)
+      go true h = omega arith
+      go false h = omega arith
+
+  -- what isn't kept counts nothing
+  pub sum-keep-all : (l : List ℕ) → ((x : ℕ) → x ∈ l → p x ≡ false → f x ≡ 0) → sum (map f (keep p l)) ≡ sum (map f l)
+  sum-keep-all [] h = refl
+  sum-keep-all (x ∷ xs) h = go (p x) refl (sum-keep-all xs (λ y m. h y (in-tail m)))
+    where
+      go : (b : Bool) → p x ≡ b → sum (map f (keep p xs)) ≡ sum (map f xs) → sum (map f (cond b (x ∷ keep p xs) (keep p xs))) ≡ f x + sum (map f xs)
+      go true e ih = omega arith
+      go false e ih = let z : f x ≡ 0 = h x (in-head refl) e in omega arith
+
+-- less at every place
+sum-le : (f g : ℕ → ℕ) (l : List ℕ) → ((x : ℕ) → x ∈ l → f x < g x) → sum (map f l) ≤ sum (map g l)
+sum-le f g [] h = omega arith
+sum-le f g (x ∷ xs) h =
+    let a : f x < g x = h x (in-head refl) in
+    let b : sum (map f xs) ≤ sum (map g xs) = sum-le f g xs (λ y m. h y (in-tail m)) in
+    omega arith
+
+pub sum-less : (f g : ℕ → ℕ) (l : List ℕ) → ((x : ℕ) → x ∈ l → f x < g x) → 0 < length l → sum (map f l) < sum (map g l)
+sum-less f g [] h n = absurd (omega arith)
+sum-less f g (x ∷ xs) h n =
+    let a : f x < g x = h x (in-head refl) in
+    let b : sum (map f xs) ≤ sum (map g xs) = sum-le f g xs (λ y m. h y (in-tail m)) in
+    omega arith
+
+-- a turn of a loop that adds: one entry more
+sum-last : (l : List ℕ) (x : ℕ) → sum (l ++ (x ∷ [])) ≡ sum l + x
+sum-last [] x = omega arith
+sum-last (y ∷ ys) x = omega (arith, sum-last ys x)
+
+pub sum-next : (f : ℕ → ℕ) (n : ℕ) → sum (tab n f) + f n ≡ sum (tab (n + 1) f)
+sum-next f n = rw add-one (sym (sum-last (tab n f) (f n)) ∙ ap sum (sym (tab-suc f n)))

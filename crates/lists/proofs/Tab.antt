@@ -10,7 +10,7 @@ use lib.ListN.{getD, length, length-map}
 use lib.Seq.{ext-getD}
 use Rattle.lists.proofs.Map.{map-at}
 use Rattle.lists.proofs.Range.{range-length, range-split, upto-at}
-use Rattle.lists.specs.Lists.{Below, range, tab, upto}
+use Rattle.lists.specs.Lists.{at, Below, range, tab, upto}
 
 module _ {A : Type 0} where
   pub tab-length : (f : ℕ → A) (n : ℕ) → length (tab n f) ≡ n
@@ -40,6 +40,10 @@ module _ {A : Type 0} where
 -- a function of every entry
 pub tab-map : {A B : Type 0} (f : A → B) (g : ℕ → A) (n : ℕ) → map f (tab n g) ≡ tab n (λ k. f (g k))
 tab-map f g n = map-map f g (upto n)
+
+-- the entries of a list, by their places
+pub tab-entries : (f : ℕ → ℕ) (l : List ℕ) {n : ℕ} → n ≡ length l → tab n (λ k. f (at l k)) ≡ map f l
+tab-entries f l {n} e = sym (tab-map f (at l) n) ∙ ap (map f) (tab-is (at l) l n 0 (sym e) (λ k h. refl))
 
 -- a function that stays below b
 pub tab-below : (f : ℕ → ℕ) (n b : ℕ) → ((k : ℕ) → k < n → f k < b) → Below b (tab n f)

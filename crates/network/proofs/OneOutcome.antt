@@ -1,10 +1,17 @@
--- Any two outcomes that the contract of the network call allows are equal. The contract is that in src/.
+-- Any two outcomes that the contracts of the network call and of lifting heights allow are equal. The contracts are those in src/.
 -- Assumes nothing.
-use Rattle.lists.proofs.Determined.{one-outcome}
+use mathlib.Core.Path.{refl}
+use Rattle.lists.proofs.Determined.{one-answer, one-outcome}
 use Rattle.lists.specs.Contract.{OneOutcome}
 use Rattle.rules.specs.SixLists.{sixLists}
+use Rattle.network.proofs.lift_heights.Kinds as lift-heights-kinds
+use Rattle.network.proofs.lift_heights.Reads as lift-heights
 use Rattle.network.proofs.network.Kinds as network-kinds
 use Rattle.network.proofs.network.Reads as network
+
+-- the list
+pub lift-heights-one : OneOutcome 2 lift-heights-kinds.ps lift-heights-kinds.r lift-heights.Asked lift-heights.Learnt (λ κs a r e. e .1 .0 .now)
+lift-heights-one κs a p r r′ e e′ x y = (refl, one-answer x y)
 
 -- the answer and the six lists
 pub network-one : OneOutcome 9 network-kinds.ps network-kinds.r network.Asked network.Learnt

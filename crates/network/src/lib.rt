@@ -18,7 +18,7 @@ use lists::least;
 use stages::work_out;
 
 // The heights of a list, lifted, at the start of a lent one.
-fn lift_heights(heights: &[i32], out: &mut [u32])
+pub fn lift_heights(heights: &[i32], out: &mut [u32])
     requires { ⌜ (length (now heights) ≤ length (now out)) × InRange (now heights) ⌝ }
     ensures { λ _. ⌜ now (out .exit) ≡ overwrite (map lifted (now (heights .entry))) (now (out .entry)) ⌝ }
 {

@@ -38,7 +38,7 @@ module _ (s : List ℕ) (w h : ℕ) (G : Good (groundIn s w h)) (n : ℕ) (z : n
     pub read-full : length (take n heights) ≡ h * w
     read-full = ap length t ∙ lifted-full g G
 
-    read-land : tileLand rule4 w (take n heights) (stretch (4 * n) (5 * n - 4 * n) s) ≡ land4 (groundIn s w h)
+    pub read-land : tileLand rule4 w (take n heights) (stretch (4 * n) (5 * n - 4 * n) s) ≡ land4 (groundIn s w h)
     read-land =
         ap (λ (l : List ℕ). tileLand rule4 w l marks) t
         ∙ ap (tileLand rule4 w (map lifted (g .heights))) (marks-are s w h G n z)

@@ -12,10 +12,16 @@ use Rattle.lists.specs.Contract.{OneOutcome}
 use Rattle.lists.specs.Lists.{at, tab}
 use Rattle.rules.specs.Ground.{lifted}
 use Rattle.walk.specs.Walk.{lent}
+use Rattle.record_stages.proofs.lift_record.Kinds as lift-record-kinds
+use Rattle.record_stages.proofs.lift_record.Reads as lift-record
 use Rattle.record_stages.proofs.link_record.Kinds as link-record-kinds
 use Rattle.record_stages.proofs.link_record.Reads as link-record
 use Rattle.record_stages.proofs.walk_record.Kinds as walk-record-kinds
 use Rattle.record_stages.proofs.walk_record.Reads as walk-record
+
+-- the list
+pub lift-record-one : OneOutcome 2 lift-record-kinds.ps lift-record-kinds.r lift-record.Asked lift-record.Learnt (λ κs a r e. e .1 .1 .0 .now)
+lift-record-one κs a p r r′ e e′ x y = (refl, one-answer x y)
 
 -- the heights of the ground in a record, lifted
 abbrev heightsIn : List ℕ → (w h : ℕ) → List ℕ

@@ -15,7 +15,7 @@ use stages::link_cells;
 use walk::walk_links;
 
 // The first n heights of a record, lifted, at the start of a lent list.
-fn lift_record(bytes: &[u8], n: usize, out: &mut [u32])
+pub fn lift_record(bytes: &[u8], n: usize, out: &mut [u32])
     requires { ⌜ (4 * n ≤ length (now bytes)) × (n ≤ length (now out)) × InRangeAt (now bytes) n ⌝ }
     ensures { λ _. ⌜ now (out .exit) ≡ filled (liftedAt (now (bytes .entry))) n (now (out .entry)) ⌝ }
 {

@@ -11,6 +11,8 @@ use Rattle.sections.proofs.write_u16.Kinds as write-u16-kinds
 use Rattle.sections.proofs.write_u16.Reads as write-u16
 use Rattle.sections.proofs.write_u32.Kinds as write-u32-kinds
 use Rattle.sections.proofs.write_u32.Reads as write-u32
+use Rattle.sections.proofs.write_u64.Kinds as write-u64-kinds
+use Rattle.sections.proofs.write_u64.Reads as write-u64
 use Rattle.sections.proofs.write_section_u8.Kinds as write-section-u8-kinds
 use Rattle.sections.proofs.write_section_u8.Reads as write-section-u8
 use Rattle.sections.proofs.write_section_u16.Kinds as write-section-u16-kinds
@@ -35,6 +37,10 @@ write-u16-one κs a p r r′ e e′ x y = (refl, one-answer x y)
 pub write-u32-one : OneOutcome 1 write-u32-kinds.ps write-u32-kinds.r write-u32.Asked write-u32.Learnt
     (λ κs a r e. e .0 .now)
 write-u32-one κs a p r r′ e e′ x y = (refl, one-answer x y)
+
+pub write-u64-one : OneOutcome 1 write-u64-kinds.ps write-u64-kinds.r write-u64.Asked write-u64.Learnt
+    (λ κs a r e. e .0 .now)
+write-u64-one κs a p r r′ e e′ x y = (refl, one-answer x y)
 
 pub write-section-u8-one : OneOutcome 2 write-section-u8-kinds.ps write-section-u8-kinds.r write-section-u8.Asked write-section-u8.Learnt
     (λ κs a r e. e .0 .now)

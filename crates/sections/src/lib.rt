@@ -60,6 +60,15 @@ pub fn write_u32(bytes: &mut [u8], from: usize, x: u32)
     bytes[from + 3] = (x / 256 / 256 / 256 % 256) as u8;
 }
 
+// A number into the eight bytes from index `from` on: its low half, then its high half.
+pub fn write_u64(bytes: &mut [u8], from: usize, x: u64)
+    requires { ⌜ from + 8 ≤ length (now bytes) ⌝ }
+    ensures { λ _. ⌜ now (bytes .exit) ≡ stored from (bytesOf 8 x) (now (bytes .entry)) ⌝ }
+{
+    write_u32(bytes, from, (x % 4_294_967_296) as u32);
+    write_u32(bytes, from + 4, (x / 4_294_967_296) as u32);
+}
+
 // All entries of a list into a part that holds just them, one byte each.
 fn fill_u8(part: &mut [u8], list: &[u8])
     requires { ⌜ length (now part) ≡ length (now list) ⌝ }

@@ -1,31 +1,13 @@
 -- The loop that packs the pairs of one cell after the other: two writes a turn, each counted if the cell's flag has its bit.
 -- Assumes nothing.
-use mathlib.Core.Bool.{Bool, cond}
-use mathlib.Core.List.{[], List, _++_, _∷_}
-use mathlib.Core.Path.{ap, refl, subst, sym, _∙_, _≡_}
+use mathlib.Core.List.{List}
+use mathlib.Core.Path.{refl, subst, _∙_, _≡_}
 use Prim.Native.Nat.{ℕ, _%_, _*_, _+_, _/_, _<_, _≤_}
-use native.Mathlib.Nat.{zero-add}
 use native.Mathlib.Omega.{arith}
-use lib.Dec.{eqb}
 use lib.ListN.{length, length-set, set}
-use Rattle.lists.proofs.Keep.{keep-append}
-use Rattle.lists.proofs.Packs.{packs-bit, packs-none}
-use Rattle.lists.proofs.Range.{range-split}
-use Rattle.lists.specs.Lists.{keep, range, upto}
+use Rattle.lists.proofs.Packs.{packs-next, packs-none}
 use Rattle.lists.specs.Stores.{Packs}
 use Rattle.squares.specs.Squares.{flagged, pairsOf}
-
--- the next number, written and then counted if it passes the test
-packs-next : (t : ℕ → Bool) {l : List ℕ} {k : ℕ} (m b : ℕ) → t m ≡ eqb b 1 → b ≤ 1 → k < length l → Packs (keep t (upto m)) l k
-    → Packs (keep t (upto (m + 1))) (set l k m) (k + b)
-packs-next t {l} {k} m b e i h P = subst (λ (p : List ℕ). Packs p (set l k m) (k + b)) (sym next) (packs-bit m b P h i)
-  where
-    next : keep t (upto (m + 1)) ≡ keep t (upto m) ++ cond (eqb b 1) (m ∷ []) []
-    next =
-        ap (keep t) (range-split 0 m 1)
-        ∙ keep-append t (upto m) (range (0 + m) 1)
-        ∙ ap (λ (z : ℕ). keep t (upto m) ++ cond (t z) (z ∷ []) []) (zero-add m)
-        ∙ ap (λ (s : Bool). keep t (upto m) ++ cond s (m ∷ []) []) e
 
 -- the pairs of c cells are packed, and k is their number
 pub record Packing (flag : ℕ → ℕ) (old list : List ℕ) (k c : ℕ) : Type 0 where

@@ -20,7 +20,7 @@ use Rattle.text.specs.Text.{cellLine, cellLines, outletDrainage, pairLin
 use Rattle.text.specs.Writing.{mostText, Printable}
 
 -- 8,000,000 has seven digits, and a sign may stand before them
-length-signedDecimal : (x : ℕ) → x ≤ 16000000 → length (signedDecimal (dropped x)) ≤ 8
+pub length-signedDecimal : (x : ℕ) → x ≤ 16000000 → length (signedDecimal (dropped x)) ≤ 8
 length-signedDecimal x h = go (lt-or-ge x 8000000)
   where
     go : (x < 8000000) ⊎ (8000000 ≤ x) → length (signedDecimal (dropped x)) ≤ 8

@@ -1,5 +1,5 @@
 // The text that `drain` prints (document 01), for a tile and for a refusal, and the lines that `follow` prints, as bytes in a lent list:
-// specs/Text.antt says which.
+// specs/Text.antt says which. Crate lake_text writes its lines with the same numbers, levels and words.
 // Only reading and writing are left to the program. These are leaves: callers show that there is room, as `Printable` says of a tile.
 ghost use mathlib.Core.Bool.{cond};
 ghost use mathlib.Core.List.{[], map, _++_, _∷_};
@@ -29,7 +29,7 @@ fn write_decimal(text: &mut [u8], from: usize, n: u64) -> usize
 }
 
 // A number's digits, and then a space or a newline.
-fn write_number(text: &mut [u8], from: usize, n: u64, after: u8) -> usize
+pub fn write_number(text: &mut [u8], from: usize, n: u64, after: u8) -> usize
     requires { ⌜ Fits from (decimal n ++ (after ∷ [])) (now text) ⌝ }
     ensures { λ r. ⌜ Wrote from (decimal n ++ (after ∷ [])) (now (text .entry)) (now (text .exit)) r ⌝ }
 {
@@ -39,7 +39,7 @@ fn write_number(text: &mut [u8], from: usize, n: u64, after: u8) -> usize
 }
 
 // A lifted level as the signed number that it stands for, and then a space.
-fn write_level(text: &mut [u8], from: usize, level: u32) -> usize
+pub fn write_level(text: &mut [u8], from: usize, level: u32) -> usize
     requires { ⌜ Fits from (signedDecimal (dropped level) ++ (32 ∷ [])) (now text) ⌝ }
     ensures { λ r. ⌜ Wrote from (signedDecimal (dropped level) ++ (32 ∷ [])) (now (text .entry)) (now (text .exit)) r ⌝ }
 {
@@ -52,7 +52,7 @@ fn write_level(text: &mut [u8], from: usize, level: u32) -> usize
 }
 
 // A word, with the space that follows it.
-fn write_word(text: &mut [u8], from: usize, word: &[u8]) -> usize
+pub fn write_word(text: &mut [u8], from: usize, word: &[u8]) -> usize
     requires { ⌜ Fits from (now word) (now text) ⌝ }
     ensures { λ r. ⌜ Wrote from (now (word .entry)) (now (text .entry)) (now (text .exit)) r ⌝ }
 {

@@ -7,16 +7,25 @@ pub struct Function {
     pub section: String,
     pub name: String,
     pub start: u64,
+    pub instructions: Vec<Instruction>,
     pub jumps: Vec<Jump>,
     /// Whether what follows its last instruction is never reached.
     pub ends: bool,
-    /// Whether the instruction read last is the last of the jumps.
-    at_jump: bool,
+}
+
+/// One instruction, with what the linker is to put in.
+#[derive(Debug)]
+pub struct Instruction {
+    pub address: u64,
+    pub text: String,
+    pub note: Option<String>,
 }
 
 /// An instruction that goes elsewhere: a call, or a jump with or without a condition.
 #[derive(Debug)]
 pub struct Jump {
+    /// Which one of the function's instructions it is.
+    pub at: usize,
     pub text: String,
     pub goal: Goal,
 }
@@ -58,9 +67,9 @@ impl Listing {
                     section: section.to_string(),
                     name: name.to_string(),
                     start,
+                    instructions: Vec::new(),
                     jumps: Vec::new(),
                     ends: false,
-                    at_jump: false,
                 });
             } else if let Some(function) = listing.functions.last_mut() {
                 function.take_line(line);
@@ -74,28 +83,46 @@ impl Function {
     /// One line of the function's body: an instruction, or a note for the linker on the one above.
     fn take_line(&mut self, line: &str) {
         if let Some(note) = line.strip_prefix("\t\t\t") {
-            let jump = self.jumps.last_mut().filter(|_| self.at_jump);
-            if let (Some(jump), Some(goal)) = (jump, linked_goal(note)) {
-                jump.take_note(note, goal);
+            self.take_note(note);
+        } else if let Some((address, instruction)) = line.split_once(":\t") {
+            if let Ok(address) = u64::from_str_radix(address.trim(), 16) {
+                self.take_instruction(address, instruction);
             }
-        } else if let Some((_, instruction)) = line.split_once(":\t") {
-            self.take_instruction(instruction);
         }
     }
 
-    fn take_instruction(&mut self, instruction: &str) {
+    fn take_note(&mut self, note: &str) {
+        let Some(instruction) = self.instructions.last_mut() else {
+            return;
+        };
+        instruction.note = Some(note.to_string());
+        let read_last = self.instructions.len() - 1;
+        let jump = self.jumps.last_mut().filter(|jump| jump.at == read_last);
+        if let (Some(jump), Some(goal)) = (jump, linked_goal(note)) {
+            jump.take_note(note, goal);
+        }
+    }
+
+    fn take_instruction(&mut self, address: u64, instruction: &str) {
         let (name, operands) = name_and_operands(instruction);
         // Padding between functions says nothing about where the last one ends.
         let padding = name.starts_with("nop") || name == "int3" || instruction == "xchg   %ax,%ax";
         if !padding {
             self.ends = name.starts_with("ret") || name.starts_with("jmp") || name == "ud2";
         }
-        let goal = goal_of(name, operands);
-        self.at_jump = goal.is_some();
-        if let Some(goal) = goal {
-            let text = instruction.to_string();
-            self.jumps.push(Jump { text, goal });
+        let text = instruction.trim_end().to_string();
+        if let Some(goal) = goal_of(name, operands) {
+            self.jumps.push(Jump {
+                at: self.instructions.len(),
+                text: text.clone(),
+                goal,
+            });
         }
+        self.instructions.push(Instruction {
+            address,
+            text,
+            note: None,
+        });
     }
 }
 
@@ -119,7 +146,7 @@ fn function_head(line: &str) -> Option<(u64, &str)> {
 }
 
 /// The instruction's name without prefixes, and its operands without objdump's remark.
-fn name_and_operands(instruction: &str) -> (&str, &str) {
+pub fn name_and_operands(instruction: &str) -> (&str, &str) {
     let prefixes = [
         "notrack", "bnd", "rep", "repz", "repnz", "lock", "data16", "cs", "ds", "es", "addr32",
     ];
@@ -157,16 +184,19 @@ fn goal_of(name: &str, operands: &str) -> Option<Goal> {
 
 /// A note for the linker, `1c: R_X86_64_PLT32\tmemset-0x4`: the four bytes that it fills count from their own end.
 fn linked_goal(note: &str) -> Option<Goal> {
-    let (_, symbol) = note.rsplit_once('\t')?;
-    let (name, more) = match symbol.rfind("+0x").max(symbol.rfind("-0x")) {
-        None => (symbol, 0),
-        Some(at) => {
-            let number = i64::from_str_radix(&symbol[at + 3..], 16).ok()?;
-            let sign = if symbol[at..].starts_with('-') { -1 } else { 1 };
-            (&symbol[..at], sign * number)
-        }
-    };
+    let (_, linked) = note.rsplit_once('\t')?;
+    let (name, more) = symbol_and_more(linked)?;
     Some(Goal::Symbol(name.to_string(), more + 4))
+}
+
+/// A symbol and how many bytes past it, `.text.run+0x48`.
+pub fn symbol_and_more(linked: &str) -> Option<(&str, i64)> {
+    let Some(at) = linked.rfind("+0x").max(linked.rfind("-0x")) else {
+        return Some((linked, 0));
+    };
+    let number = i64::from_str_radix(&linked[at + 3..], 16).ok()?;
+    let sign = if linked[at..].starts_with('-') { -1 } else { 1 };
+    Some((&linked[..at], sign * number))
 }
 
 #[cfg(test)]

@@ -1,19 +1,26 @@
-// The C call behind a pipe, for machines that can't link the library: reads calls on standard input, makes each of them, and writes
+// The C calls behind a pipe, for machines that can't link the libraries: reads calls on standard input, makes each of them, and writes
 // what became of it on standard output. The emulator runs this program, and the comparison is at the other end of both pipes.
 //
-// A call: the lengths of the ground and of the network record (4 bytes each, little-endian), then the bytes of both.
+// A call: which one, 0 for the network and 1 for the lakes, and the lengths of the ground and of the room (4 bytes each, little-endian),
+// then the bytes of both.
 // Its outcome: the answer, 1 if every byte that wasn't lent for writing is as it was and 0 if not (4 bytes each), and the bytes of the
-// network record. The end of the input ends the program.
+// room. The end of the input ends the program.
 #include <algorithm>
 #include <cstdint>
 #include <cstdio>
 #include <cstdlib>
+#include <iterator>
 #include <span>
 #include <vector>
 
 #include "askvimur.h"
+#include "askvimur_service.h"
 
 namespace {
+
+using Call = std::uint32_t (*)(const std::uint8_t*, std::size_t, std::uint8_t*, std::size_t);
+
+constexpr Call calls[] = {askvimur_network, askvimur_lakes};
 
 constexpr std::size_t watched = 64;  // bytes on either side of what is lent
 
@@ -63,19 +70,21 @@ struct Lent {
 
 int main() {
     for (std::size_t turn = 0;; ++turn) {
-        std::uint8_t lengths[8];
-        take(lengths, true);
-        Lent ground(number_in(std::span(lengths).first(4)), turn);
-        Lent network(number_in(std::span(lengths).last(4)), turn / 8);
+        std::uint8_t head[12];
+        take(head, true);
+        const std::uint32_t which = number_in(std::span(head).first(4));
+        if (which >= std::size(calls)) return 1;
+        Lent ground(number_in(std::span(head).subspan(4, 4)), turn);
+        Lent room(number_in(std::span(head).last(4)), turn / 8);
         take(ground.record(), false);
-        take(network.record(), false);
+        take(room.record(), false);
         const std::vector<std::uint8_t> ground_before = ground.bytes;
         // Watched bytes follow even an empty record, so neither pointer is null.
-        const std::uint32_t answer = askvimur_network(ground.record().data(), ground.record().size(), network.record().data(),
-                                                      network.record().size());
+        const std::uint32_t answer =
+            calls[which](ground.record().data(), ground.record().size(), room.record().data(), room.record().size());
         give_number(answer);
-        give_number(ground.bytes == ground_before && network.margins_kept() ? 1 : 0);
-        give(network.record());
+        give_number(ground.bytes == ground_before && room.margins_kept() ? 1 : 0);
+        give(room.record());
         if (std::fflush(stdout) != 0) return 1;
     }
 }

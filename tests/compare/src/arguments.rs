@@ -5,14 +5,16 @@ use std::path::PathBuf;
 /// How the program is called.
 pub const USAGE: &str = "\
 usage: compare [--seed N] [--cases N] [--progress] [--name-each]
-               [--exhaustive | --drain PROGRAM | --follow PROGRAM | --mutants]
+               [--exhaustive | --drain PROGRAM | --follow PROGRAM | --lakes PROGRAM | --mutants]
   --seed N         another seed gives other records (1)
-  --cases N        how many calls to compare, or inputs with --drain or --follow
+  --cases N        how many networks to compare, and lakes for each hundred of them 30;
+                   with --drain, --follow or --lakes how many inputs
   --progress       say on the error output how far the run is
   --name-each      name each record before it is tried, to find one that ends the program
   --exhaustive     only every 3 by 3 tile over three heights with one outlet
   --drain PROGRAM  only the text of this drain program
   --follow PROGRAM only the text of this follow program
+  --lakes PROGRAM  only the text of this lakes program
   --mutants        only how soon each wrong library and each wrong text of follow is caught";
 
 /// What a run does.
@@ -22,6 +24,7 @@ pub enum Mode {
     Exhaustive,
     Drain(PathBuf),
     Follow(PathBuf),
+    Lakes(PathBuf),
     Mutants,
 }
 
@@ -56,6 +59,7 @@ impl Arguments {
                 "--mutants" => arguments.mode = Mode::Mutants,
                 "--drain" => arguments.mode = Mode::Drain(program(&word, words.next())?),
                 "--follow" => arguments.mode = Mode::Follow(program(&word, words.next())?),
+                "--lakes" => arguments.mode = Mode::Lakes(program(&word, words.next())?),
                 _ => return Err(format!("unknown argument {word}")),
             }
         }
@@ -98,6 +102,8 @@ mod tests {
         assert_eq!(read("--exhaustive").unwrap().mode, Mode::Exhaustive);
         let follow = Mode::Follow(PathBuf::from("./follow"));
         assert_eq!(read("--follow ./follow").unwrap().mode, follow);
+        let lakes = Mode::Lakes(PathBuf::from("./lakes"));
+        assert_eq!(read("--lakes ./lakes").unwrap().mode, lakes);
     }
 
     #[test]

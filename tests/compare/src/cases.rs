@@ -1,17 +1,37 @@
 //! Cases: a seed and an index give one record, and the rooms that it is tried with.
 
-use second::network_record;
-use second::record;
+use second::lake_list::LAKE;
+use second::{network_record, record};
 
 use crate::chance::Chance;
-use crate::damage::{Damaged, DAMAGES};
-use crate::families::FAMILIES;
+use crate::damage::{Damage, Damaged, DAMAGES, LAKE_DAMAGES};
+use crate::families::{Family, FAMILIES};
+use crate::lake_families::LAKE_FAMILIES;
 
-/// How many rooms each record is tried with.
-pub const ROOMS: usize = 4;
+/// Where the records of a call come from, and which rooms they are tried with.
+pub struct Cases {
+    families: &'static [&'static [Family]],
+    damages: &'static [&'static [Damage]],
+    rooms: fn(&mut Chance, &Damaged) -> Vec<usize>,
+    /// How many rooms that gives for each record.
+    pub rooms_each: usize,
+}
 
-/// How many families there are, damaged ones included.
-pub const KINDS: usize = FAMILIES.len() + DAMAGES.len();
+/// For the network: room for a network record.
+pub const NETWORK: Cases = Cases {
+    families: &[&FAMILIES],
+    damages: &[&DAMAGES],
+    rooms: network_rooms,
+    rooms_each: 4,
+};
+
+/// For the lakes: room for the list.
+pub const LAKES: Cases = Cases {
+    families: &[&FAMILIES, &LAKE_FAMILIES],
+    damages: &[&DAMAGES, &LAKE_DAMAGES],
+    rooms: lakes_rooms,
+    rooms_each: 6,
+};
 
 /// One generated record. A call with one of its rooms is what the run counts as a case.
 pub struct Specimen {
@@ -22,33 +42,64 @@ pub struct Specimen {
     pub rooms: Vec<usize>,
 }
 
-/// The record with this index. The families take turns.
-pub fn specimen(seed: u64, index: u64) -> Specimen {
-    let mut chance = Chance::of_case(seed, index);
-    let turn = (index % KINDS as u64) as usize;
-    let (family, Damaged { record, size }) = match FAMILIES.get(turn) {
-        Some(family) => (family.name, sound((family.make)(&mut chance))),
-        None => {
-            let damage = &DAMAGES[turn - FAMILIES.len()];
-            (damage.name, (damage.make)(&mut chance))
+impl Cases {
+    /// The record with this index. The families take turns, the sound ones first.
+    pub fn specimen(&self, seed: u64, index: u64) -> Specimen {
+        let mut chance = Chance::of_case(seed, index);
+        let sound = || self.families.iter().copied().flatten();
+        let damages = || self.damages.iter().copied().flatten();
+        let kinds = sound().count() + damages().count();
+        let turn = (index % kinds as u64) as usize;
+        let (family, made) = match sound().nth(turn) {
+            Some(family) => (family.name, whole((family.make)(&mut chance))),
+            None => {
+                let damage = damages().nth(turn - sound().count());
+                let damage = damage.expect("the turn is below the count of both");
+                (damage.name, (damage.make)(&mut chance))
+            }
+        };
+        Specimen {
+            family,
+            seed,
+            index,
+            rooms: (self.rooms)(&mut chance, &made),
+            record: made.record,
         }
-    };
-    let exact = network_record::length(size);
-    let longer = exact + 1 + chance.below(64);
-    Specimen {
-        family,
-        seed,
-        index,
-        record,
-        rooms: vec![exact, exact - 1, 0, longer],
     }
 }
 
-fn sound(ground: second::ground::Ground) -> Damaged {
+fn whole(ground: second::ground::Ground) -> Damaged {
     Damaged {
         record: record::bytes(&ground),
         size: ground.size,
     }
+}
+
+/// Exact, a byte short, none, and longer.
+fn network_rooms(chance: &mut Chance, made: &Damaged) -> Vec<usize> {
+    let exact = network_record::length(made.size);
+    let longer = exact + 1 + chance.below(64);
+    vec![exact, exact - 1, 0, longer]
+}
+
+/// Exact, a byte short, a lake short, none, longer by less than a lake, and longer by more.
+fn lakes_rooms(chance: &mut Chance, made: &Damaged) -> Vec<usize> {
+    let lakes = match second::lakes_call(&made.record, &mut [0; 65_536]) {
+        accepted if accepted < 65_536 => accepted as usize,
+        // What is refused has no list, and any room will do.
+        _ => chance.below(300),
+    };
+    let exact = LAKE * lakes;
+    let less_than_a_lake = 1 + chance.below(LAKE - 1);
+    let more_than_a_lake = LAKE + chance.below(64);
+    vec![
+        exact,
+        exact.saturating_sub(1),
+        exact.saturating_sub(LAKE),
+        0,
+        exact + less_than_a_lake,
+        exact + more_than_a_lake,
+    ]
 }
 
 #[cfg(test)]
@@ -57,26 +108,31 @@ mod tests {
 
     #[test]
     fn the_same_seed_and_index_give_the_same_record() {
-        for index in 0..200 {
-            let (one, other) = (specimen(7, index), specimen(7, index));
-            assert_eq!(one.record, other.record);
-            assert_eq!(one.rooms, other.rooms);
+        for cases in [NETWORK, LAKES] {
+            for index in 0..200 {
+                let (one, other) = (cases.specimen(7, index), cases.specimen(7, index));
+                assert_eq!(one.record, other.record);
+                assert_eq!(one.rooms, other.rooms);
+                assert_eq!(one.rooms.len(), cases.rooms_each);
+            }
         }
     }
 
     #[test]
     fn another_seed_gives_another_record() {
-        let differing = (0..200)
-            .filter(|&index| specimen(7, index).record != specimen(8, index).record)
-            .count();
-        assert!(differing > 150);
+        for cases in [NETWORK, LAKES] {
+            let differs =
+                |&index: &u64| cases.specimen(7, index).record != cases.specimen(8, index).record;
+            assert!((0..200).filter(differs).count() > 150);
+        }
     }
 
     #[test]
     fn every_sound_family_is_accepted() {
+        let sound: Vec<&str> = FAMILIES.iter().map(|family| family.name).collect();
         for index in 0..20_000 {
-            let specimen = specimen(3, index);
-            if (specimen.index as usize % KINDS) < FAMILIES.len() {
+            let specimen = NETWORK.specimen(3, index);
+            if sound.contains(&specimen.family) {
                 let judged = record::check(&specimen.record);
                 assert!(judged.is_ok(), "{} {index}: {judged:?}", specimen.family);
             }

@@ -1,21 +1,26 @@
-//! The comparison of one record: every room, every lent and watched byte, and demand 3 and rule 10 by
-//! brute force.
+//! The comparison of one record: every room, every lent and watched byte, and what was written judged
+//! by brute force.
 
 use std::time::Instant;
 
 use second::record;
 
+use crate::calls::Call;
 use crate::cases::Specimen;
-use crate::demand3;
 use crate::difference::{first_differing_byte, Difference};
 use crate::lending::{Lent, WATCHED};
-use crate::library::Library;
+use crate::library::{Library, SECOND};
 use crate::tally::Tally;
 
 /// Tries a record with each of its rooms. The first difference is enough.
-pub fn compare(library: Library, specimen: &Specimen, tally: &mut Tally) -> Option<Difference> {
+pub fn compare(
+    call: &'static Call,
+    library: Library,
+    specimen: &Specimen,
+    tally: &mut Tally,
+) -> Option<Difference> {
     for (turn, &room) in specimen.rooms.iter().enumerate() {
-        let difference = compare_with_room(library, specimen, room, turn == 0, tally);
+        let difference = compare_with_room(call, library, specimen, (turn, room), tally);
         if difference.is_some() {
             tally.differences += 1;
             return difference;
@@ -24,12 +29,12 @@ pub fn compare(library: Library, specimen: &Specimen, tally: &mut Tally) -> Opti
     None
 }
 
-/// One call to each side. Demand 3 and rule 10 are tried on what the first of them gives.
+/// One call to each side. What the first of a record's calls writes is judged by brute force too.
 fn compare_with_room(
+    call: &'static Call,
     library: Library,
     specimen: &Specimen,
-    room: usize,
-    with_demand_3: bool,
+    (turn, room): (usize, usize),
     tally: &mut Tally,
 ) -> Option<Difference> {
     let lent = Lent::new(&specimen.record, room, specimen.index);
@@ -37,20 +42,17 @@ fn compare_with_room(
     let start = Instant::now();
     let answer = found.call(library);
     let between = Instant::now();
-    let wanted_answer = wanted.call(second::call);
-    tally.count(
-        specimen.family,
-        wanted_answer,
-        between - start,
-        between.elapsed(),
-    );
-    let what = disagreement(answer, &found, wanted_answer, &wanted)
-        .or_else(|| broken_promise(answer, &found, &lent))
-        .or_else(|| match with_demand_3 {
-            true => broken_demand_3(answer, &found, &specimen.record),
-            false => None,
+    let wanted_answer = wanted.call((call.of)(&SECOND));
+    let times = (between - start, between.elapsed());
+    tally.count(specimen.family, wanted_answer, room, times);
+    let what = disagreement(call, answer, &found, wanted_answer, &wanted)
+        .or_else(|| broken_promise(call, answer, &found, &lent))
+        .or_else(|| match turn {
+            0 => wrong_by_brute_force(call, answer, &found, &specimen.record),
+            _ => None,
         })?;
     Some(Difference {
+        call,
         family: specimen.family,
         seed: specimen.seed,
         index: specimen.index,
@@ -61,20 +63,24 @@ fn compare_with_room(
     })
 }
 
-/// How many cells an accepted answer stands for, if it is one at all.
-fn cells_of(answer: u32) -> Option<usize> {
-    let sections = (answer as usize).checked_sub(28)?;
-    (answer < 65_536).then_some(sections / 15)
-}
-
 /// Where the two sides differ, in the answer or in any byte.
-fn disagreement(answer: u32, found: &Lent, wanted: u32, expected: &Lent) -> Option<String> {
+fn disagreement(
+    call: &Call,
+    answer: u32,
+    found: &Lent,
+    wanted: u32,
+    expected: &Lent,
+) -> Option<String> {
+    let part = |byte| match wanted < 65_536 {
+        true => (call.part)(byte, wanted),
+        false => "refused, so it should be untouched".to_string(),
+    };
     let byte = first_differing_byte(
-        &found.network,
-        &expected.network,
+        &found.output,
+        &expected.output,
         expected.before,
         expected.room,
-        cells_of(wanted),
+        part,
     );
     match (answer == wanted, byte) {
         (true, None) => None,
@@ -83,17 +89,20 @@ fn disagreement(answer: u32, found: &Lent, wanted: u32, expected: &Lent) -> Opti
     }
 }
 
-/// What document 01 promises about lent bytes, whatever the second program does.
-fn broken_promise(answer: u32, found: &Lent, lent: &Lent) -> Option<String> {
+/// What the documents promise about lent bytes, whatever the second program does.
+fn broken_promise(call: &Call, answer: u32, found: &Lent, lent: &Lent) -> Option<String> {
     if let Some(byte) = (0..lent.ground.len()).find(|&at| found.ground[at] != lent.ground[at]) {
         return Some(altered_ground(byte, lent));
     }
-    let written = if answer < 65_536 { answer as usize } else { 0 };
-    let end = (lent.before + written).min(lent.network.len());
-    match found.network[..lent.before] != lent.network[..lent.before]
-        || found.network[end..] != lent.network[end..]
+    let written = match answer < 65_536 {
+        true => (call.written)(answer),
+        false => 0,
+    };
+    let end = (lent.before + written).min(lent.output.len());
+    match found.output[..lent.before] != lent.output[..lent.before]
+        || found.output[end..] != lent.output[end..]
     {
-        true => Some("a byte outside the record written is altered".to_string()),
+        true => Some("a byte outside of what was written is altered".to_string()),
         false => None,
     }
 }
@@ -109,13 +118,13 @@ fn altered_ground(byte: usize, lent: &Lent) -> String {
     format!("{place} the ground record is altered")
 }
 
-/// What is wrong with an accepted network by demand 3 and rule 10.
-fn broken_demand_3(answer: u32, found: &Lent, record: &[u8]) -> Option<String> {
+/// What is wrong with what an accepted call has written.
+fn wrong_by_brute_force(call: &Call, answer: u32, found: &Lent, record: &[u8]) -> Option<String> {
     if answer >= 65_536 {
         return None;
     }
     match record::read(record) {
-        Ok(ground) => demand3::judge(&ground, found.written(answer as usize))
+        Ok(ground) => (call.judge)(&ground, found.written((call.written)(answer)))
             .err()
             .map(|wrong| format!("by brute force: {wrong}")),
         Err(_) => Some("a record that should be refused is accepted".to_string()),
@@ -125,6 +134,7 @@ fn broken_demand_3(answer: u32, found: &Lent, record: &[u8]) -> Option<String> {
 #[cfg(test)]
 mod tests {
     use super::*;
+    use crate::calls::{LAKES, NETWORK};
 
     fn lent() -> Lent {
         Lent::new(&[1, 2, 3], 50, 5)
@@ -132,8 +142,11 @@ mod tests {
 
     #[test]
     fn untouched_bytes_are_no_difference() {
-        assert_eq!(broken_promise(65_536, &lent(), &lent()), None);
-        assert_eq!(disagreement(65_536, &lent(), 65_536, &lent()), None);
+        assert_eq!(broken_promise(&NETWORK, 65_536, &lent(), &lent()), None);
+        assert_eq!(
+            disagreement(&NETWORK, 65_536, &lent(), 65_536, &lent()),
+            None
+        );
     }
 
     #[test]
@@ -141,29 +154,37 @@ mod tests {
         for byte in 0..lent().ground.len() {
             let mut found = lent();
             found.ground[byte] ^= 1;
-            assert!(broken_promise(43, &found, &lent()).is_some());
+            assert!(broken_promise(&NETWORK, 43, &found, &lent()).is_some());
         }
     }
 
     #[test]
     fn any_altered_byte_after_a_refusal_is_seen() {
-        for byte in 0..lent().network.len() {
+        for byte in 0..lent().output.len() {
             let mut found = lent();
-            found.network[byte] ^= 1;
-            assert!(broken_promise(65_536, &found, &lent()).is_some());
-            assert!(disagreement(65_536, &found, 65_536, &lent()).is_some());
+            found.output[byte] ^= 1;
+            assert!(broken_promise(&NETWORK, 65_536, &found, &lent()).is_some());
+            assert!(disagreement(&NETWORK, 65_536, &found, 65_536, &lent()).is_some());
         }
     }
 
     #[test]
-    fn bytes_around_and_past_the_record_are_watched() {
+    fn bytes_around_and_past_what_is_written_are_watched() {
         let before = lent().before;
-        for byte in 0..lent().network.len() {
+        for byte in 0..lent().output.len() {
             let mut found = lent();
-            found.network[byte] ^= 1;
+            found.output[byte] ^= 1;
             let in_record = (before..before + 43).contains(&byte);
-            assert_eq!(broken_promise(43, &found, &lent()).is_none(), in_record);
+            assert_eq!(
+                broken_promise(&NETWORK, 43, &found, &lent()).is_none(),
+                in_record
+            );
+            let in_list = (before..before + 3 * 16).contains(&byte);
+            assert_eq!(
+                broken_promise(&LAKES, 3, &found, &lent()).is_none(),
+                in_list
+            );
         }
-        assert_eq!(lent().network.len(), before + 50 + WATCHED);
+        assert_eq!(lent().output.len(), before + 50 + WATCHED);
     }
 }

@@ -5,6 +5,7 @@ use second::record;
 
 use crate::chance::Chance;
 use crate::families::{any_ground, ground};
+use crate::lake_families::too_deep;
 use crate::{outlets, reliefs};
 
 /// A record and the size that it was made from, which says how much room to lend.
@@ -39,6 +40,13 @@ pub const DAMAGES: [Damage; 12] = [
     damage("noise", noise),
 ];
 
+/// Damage to grounds whose lake is too deep, which is judged after everything else about the ground.
+pub const LAKE_DAMAGES: [Damage; 1] = [damage("too deep, and bad cells", |chance| {
+    let ground = too_deep(chance);
+    let fault = chance.pick(&[spoil_heights as GroundFault, spoil_marks, drop_outlets]);
+    spoiled(chance, ground, &[fault])
+})];
+
 const fn damage(name: &'static str, make: fn(&mut Chance) -> Damaged) -> Damage {
     Damage { name, make }
 }
@@ -49,9 +57,13 @@ type GroundFault = fn(&mut Chance, &mut Ground);
 /// What spoils a record.
 type RecordFault = fn(&mut Chance, Vec<u8>) -> Vec<u8>;
 
-/// A sound ground, its lists spoiled, then written as a record.
+/// A ground of any family, its lists spoiled, then written as a record.
 fn of_ground(chance: &mut Chance, faults: &[GroundFault]) -> Damaged {
-    let mut ground = any_ground(chance);
+    let ground = any_ground(chance);
+    spoiled(chance, ground, faults)
+}
+
+fn spoiled(chance: &mut Chance, mut ground: Ground, faults: &[GroundFault]) -> Damaged {
     for fault in faults {
         fault(chance, &mut ground);
     }

@@ -119,7 +119,7 @@ fn judge_wet(ground: &Ground, wet: &[u8], least: &[i32]) -> Result<(), String> {
 }
 
 /// Spreads from the outlets, always on from the lowest point reached so far.
-fn least_highest_points(ground: &Ground) -> Vec<i32> {
+pub fn least_highest_points(ground: &Ground) -> Vec<i32> {
     let mut found: Vec<Option<i32>> = vec![None; ground.size.cells()];
     let mut reached: BinaryHeap<Reverse<(i32, Cell)>> = ground
         .cells()

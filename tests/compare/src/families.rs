@@ -69,7 +69,7 @@ pub const FAMILIES: [Family; 22] = [
     }),
 ];
 
-const fn family(name: &'static str, make: fn(&mut Chance) -> Ground) -> Family {
+pub const fn family(name: &'static str, make: fn(&mut Chance) -> Ground) -> Family {
     Family { name, make }
 }
 
@@ -132,7 +132,7 @@ pub fn ground(chance: &mut Chance, size: Size, relief: Relief, outlets: Outlets)
 }
 
 /// The same water everywhere, or any, or none in most cells.
-fn water(chance: &mut Chance, size: Size) -> Vec<u16> {
+pub fn water(chance: &mut Chance, size: Size) -> Vec<u16> {
     let kind = chance.below(5);
     (0..size.cells())
         .map(|_| match kind {

@@ -12,9 +12,11 @@ pub const WATCHED: usize = 64;
 pub struct Lent {
     /// Watched bytes before the record and before the room. It varies, and so does alignment.
     pub before: usize,
+    /// The length of the room.
     pub room: usize,
     pub ground: Vec<u8>,
-    pub network: Vec<u8>,
+    /// The room, and the watched bytes around it.
+    pub output: Vec<u8>,
 }
 
 impl Lent {
@@ -27,7 +29,7 @@ impl Lent {
             before,
             room,
             ground,
-            network: pattern(before + room + WATCHED, salt),
+            output: pattern(before + room + WATCHED, salt),
         }
     }
 
@@ -35,17 +37,17 @@ impl Lent {
     pub fn call(&mut self, library: Library) -> u32 {
         let record_end = self.ground.len() - WATCHED;
         let ground = &self.ground[self.before..record_end];
-        let network = &mut self.network[self.before..self.before + self.room];
-        let answer = library(ground, network);
+        let room = &mut self.output[self.before..self.before + self.room];
+        let answer = library(ground, room);
         // A library in C could write anywhere. Nothing is to be taken for granted about the bytes.
         black_box(&mut self.ground);
-        black_box(&mut self.network);
+        black_box(&mut self.output);
         answer
     }
 
     /// The first so many bytes of the room.
     pub fn written(&self, length: usize) -> &[u8] {
-        &self.network[self.before..self.before + length]
+        &self.output[self.before..self.before + length]
     }
 }
 

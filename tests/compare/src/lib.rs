@@ -2,16 +2,18 @@
 //! and every byte that either of them leaves; and the programs' texts on generated inputs.
 
 pub mod arguments;
+pub mod calls;
 pub mod cases;
 pub mod chance;
 pub mod comparison;
 pub mod damage;
 pub mod demand3;
 pub mod difference;
-pub mod drain_run;
 pub mod exhaustive;
 pub mod families;
 pub mod follow_run;
+pub mod lake_families;
+pub mod lake_laws;
 pub mod lending;
 pub mod library;
 #[cfg(feature = "linked")]
@@ -22,5 +24,7 @@ pub mod outlets;
 mod piped;
 pub mod program_run;
 pub mod questions;
+pub mod record_runs;
 pub mod reliefs;
 pub mod tally;
+pub mod worked;

@@ -1,29 +1,35 @@
 //! Which library is under test: the linked one, the one behind a pipe, or the second program standing in for it.
 
-/// The C call over slices: ground record in, network record out, one number back.
+/// A C call over slices: ground record in, a room to write in, one number back.
 pub type Library = fn(&[u8], &mut [u8]) -> u32;
 
+/// The calls of one library, each under its name in the header.
+#[derive(Clone, Copy)]
+pub struct Libraries {
+    /// What the first line of a run says about it.
+    pub description: &'static str,
+    pub askvimur_network: Library,
+    pub askvimur_lakes: Library,
+}
+
+/// The second program, which all are compared with.
+pub const SECOND: Libraries = Libraries {
+    description: "the second program in place of the libraries, which are not linked",
+    askvimur_network: second::call,
+    askvimur_lakes: second::lakes_call,
+};
+
 /// The library under test.
-pub fn under_test() -> Library {
-    chosen().0
-}
-
-/// What the first line of a run says about it.
-pub fn description() -> &'static str {
-    chosen().1
-}
-
 #[cfg(feature = "linked")]
-fn chosen() -> (Library, &'static str) {
-    (crate::linked::network, "the C call of libaskvimur.a")
+pub fn under_test() -> Libraries {
+    crate::linked::LIBRARIES
 }
 
+/// The library under test.
 #[cfg(not(feature = "linked"))]
-fn chosen() -> (Library, &'static str) {
-    if crate::piped::is_named() {
-        let description = "the C call of libaskvimur.a, behind a pipe";
-        return (crate::piped::network, description);
+pub fn under_test() -> Libraries {
+    match crate::piped::is_named() {
+        true => crate::piped::LIBRARIES,
+        false => SECOND,
     }
-    let description = "the second program in place of the library, which is not linked";
-    (second::call, description)
 }

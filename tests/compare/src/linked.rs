@@ -1,4 +1,6 @@
-//! The real C call, linked from `libaskvimur.a`, behind a function over slices.
+//! The real C calls, linked from `libaskvimur.a` and `libaskvimur_service.a`, behind functions over slices.
+
+use crate::library::Libraries;
 
 #[link(name = "askvimur", kind = "static")]
 extern "C" {
@@ -10,8 +12,27 @@ extern "C" {
     ) -> u32;
 }
 
+#[link(name = "askvimur_service", kind = "static")]
+extern "C" {
+    fn askvimur_lakes(
+        ground: *const u8,
+        ground_len: usize,
+        lakes: *mut u8,
+        lakes_len: usize,
+    ) -> u32;
+}
+
+/// A ground record and a room as C takes them.
+type CCall = unsafe extern "C" fn(*const u8, usize, *mut u8, usize) -> u32;
+
+pub const LIBRARIES: Libraries = Libraries {
+    description: "the C calls of libaskvimur.a and libaskvimur_service.a",
+    askvimur_network: |ground, network| handed_over(askvimur_network, ground, network),
+    askvimur_lakes: |ground, lakes| handed_over(askvimur_lakes, ground, lakes),
+};
+
 /// Hands both slices over as the header asks: never null, and never overlapping.
-pub fn network(ground: &[u8], network: &mut [u8]) -> u32 {
+fn handed_over(call: CCall, ground: &[u8], room: &mut [u8]) -> u32 {
     // An empty slice may point at no memory at all, so a byte of our own stands in for it.
     let mut nothing = [0_u8; 2];
     let (nothing_in, nothing_out) = nothing.split_at_mut(1);
@@ -19,10 +40,10 @@ pub fn network(ground: &[u8], network: &mut [u8]) -> u32 {
         true => nothing_in.as_ptr(),
         false => ground.as_ptr(),
     };
-    let network_start = match network.is_empty() {
+    let room_start = match room.is_empty() {
         true => nothing_out.as_mut_ptr(),
-        false => network.as_mut_ptr(),
+        false => room.as_mut_ptr(),
     };
     // SAFETY: both pointers hold for the lengths handed over beside them, for the whole call.
-    unsafe { askvimur_network(ground_start, ground.len(), network_start, network.len()) }
+    unsafe { call(ground_start, ground.len(), room_start, room.len()) }
 }

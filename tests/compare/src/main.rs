@@ -6,21 +6,22 @@ use std::process::ExitCode;
 use std::time::{Duration, Instant};
 
 use compare::arguments::{Arguments, Mode, USAGE};
-use compare::cases::{specimen, ROOMS};
+use compare::calls::{self, Call};
 use compare::comparison::compare;
 use compare::difference::Difference;
-use compare::drain_run::{DEFAULT_INPUTS, DRAIN};
 use compare::exhaustive;
 use compare::follow_run::{Answers, DEFAULT_QUESTIONS, FOLLOW};
-use compare::library::{self, under_test};
+use compare::library::under_test;
 use compare::mutants::{self, following};
 use compare::program_run::{compare_program, Task};
+use compare::record_runs::{DEFAULT_INPUTS, DRAIN, LAKES};
 use compare::tally::Tally;
+use compare::worked;
 
-/// How many calls a run compares when nothing else is asked for.
+/// How many cases a run has when nothing else is asked for, before each call takes its share.
 const DEFAULT_CASES: u64 = 100_000;
 
-/// How often a default run must have seen each refusal number.
+/// How often a default run must have seen each kind of refusal.
 const LEAST_REFUSALS: u64 = 500;
 
 /// Differences beyond these are counted and not printed.
@@ -37,8 +38,9 @@ fn main() -> ExitCode {
     let good = match &arguments.mode {
         Mode::Everything => everything(&arguments),
         Mode::Exhaustive => every_3_by_3(&arguments),
-        Mode::Drain(program) => drain(&arguments, program),
+        Mode::Drain(program) => records(&arguments, program, &DRAIN),
         Mode::Follow(program) => follow(&arguments, program),
+        Mode::Lakes(program) => records(&arguments, program, &LAKES),
         Mode::Mutants => mutants(&arguments),
     };
     match good {
@@ -47,54 +49,92 @@ fn main() -> ExitCode {
     }
 }
 
-/// All families, then every 3 by 3 tile.
+/// Each call on all its families and on every 3 by 3 tile, then the worked examples.
 fn everything(arguments: &Arguments) -> bool {
     let seed = arguments.seed;
-    println!("comparing {}, seed {seed}", library::description());
-    let cases = arguments.cases.unwrap_or(DEFAULT_CASES);
-    let records = cases.div_ceil(ROOMS as u64);
-    let mut tally = Tally::default();
+    println!("comparing {}, seed {seed}", under_test().description);
+    let (mut cases, mut differences, mut often) = (0, 0, true);
+    for call in calls::ALL {
+        let tally = run_call(arguments, call);
+        println!("{tally}");
+        often &= often_enough(arguments, &tally);
+        cases += tally.cases();
+        differences += tally.differences;
+    }
+    let (lines, wrong) = worked_examples();
+    last_line(cases + lines, differences + wrong) && often
+}
+
+/// One call on all its families and on every 3 by 3 tile.
+fn run_call(arguments: &Arguments, call: &'static Call) -> Tally {
+    let seed = arguments.seed;
+    let cases = arguments.cases.unwrap_or(DEFAULT_CASES) * call.share / 100;
+    let records = cases.div_ceil(call.cases.rooms_each as u64);
+    let library = (call.of)(&under_test());
+    let mut tally = Tally::of(call);
     let mut progress = Progress::new(arguments, cases + exhaustive::TILES);
     for index in 0..records {
-        let specimen = specimen(seed, index);
+        let specimen = call.cases.specimen(seed, index);
         if arguments.name_each {
-            eprintln!("family {}, index {index}", specimen.family);
+            eprintln!("{}, family {}, index {index}", call.name, specimen.family);
         }
-        let difference = compare(under_test(), &specimen, &mut tally);
+        let difference = compare(call, library, &specimen, &mut tally);
         print_difference(difference, &tally);
         progress.say(tally.cases(), tally.differences);
     }
-    compare_every_3_by_3(&mut tally, &mut progress);
-    let (number, times) = tally.rarest_refusal();
-    let rare = cases >= DEFAULT_CASES && times < LEAST_REFUSALS;
-    println!("{tally}");
+    compare_every_3_by_3(call, &mut tally, &mut progress);
+    tally
+}
+
+/// Whether a default run has seen each kind of refusal.
+fn often_enough(arguments: &Arguments, tally: &Tally) -> bool {
+    let is_default = arguments.cases.unwrap_or(DEFAULT_CASES) >= DEFAULT_CASES;
+    let (kind, times) = tally.rarest_refusal();
+    let rare = is_default && times < LEAST_REFUSALS;
     if rare {
-        println!("refusal {number} came only {times} times, which is too few for a default run");
+        println!("refusal {kind} came only {times} times, which is too few for a default run");
     }
-    last_line(tally.cases(), tally.differences) && !rare
+    !rare
+}
+
+/// How many worked examples there are, and how many of them the library does not do.
+fn worked_examples() -> (u64, u64) {
+    let examples = worked::lakes();
+    let wrong = worked::wrong_lines(&examples, under_test().askvimur_lakes);
+    println!("worked examples: {}, of lakes", examples.len());
+    for line in wrong.iter().take(MOST_PRINTED as usize) {
+        println!("difference: line {line} of the worked examples of lakes");
+    }
+    (examples.len() as u64, wrong.len() as u64)
 }
 
 fn every_3_by_3(arguments: &Arguments) -> bool {
-    println!("comparing {}", library::description());
-    let mut tally = Tally::default();
-    let mut progress = Progress::new(arguments, exhaustive::TILES);
-    compare_every_3_by_3(&mut tally, &mut progress);
-    println!("{tally}");
-    last_line(tally.cases(), tally.differences)
+    println!("comparing {}", under_test().description);
+    let (mut cases, mut differences) = (0, 0);
+    for call in calls::ALL {
+        let mut tally = Tally::of(call);
+        let mut progress = Progress::new(arguments, exhaustive::TILES);
+        compare_every_3_by_3(call, &mut tally, &mut progress);
+        println!("{tally}");
+        cases += tally.cases();
+        differences += tally.differences;
+    }
+    last_line(cases, differences)
 }
 
-fn compare_every_3_by_3(tally: &mut Tally, progress: &mut Progress) {
+fn compare_every_3_by_3(call: &'static Call, tally: &mut Tally, progress: &mut Progress) {
+    let library = (call.of)(&under_test());
     for number in 0..exhaustive::TILES {
-        let difference = exhaustive::compare_tile(under_test(), number, tally);
+        let difference = exhaustive::compare_tile(call, library, number, tally);
         print_difference(difference, tally);
         progress.say(tally.cases(), tally.differences);
     }
 }
 
-/// The text of a drain program.
-fn drain(arguments: &Arguments, program: &Path) -> bool {
+/// The text of a program that reads a ground record.
+fn records(arguments: &Arguments, program: &Path, task: &Task) -> bool {
     let inputs = arguments.cases.unwrap_or(DEFAULT_INPUTS);
-    let differences = run_program(arguments, program, &DRAIN, inputs, |_| ());
+    let differences = run_program(arguments, program, task, inputs, |_| ());
     differences.is_some_and(|differences| last_line(inputs + 1, differences))
 }
 
@@ -150,12 +190,14 @@ fn run_program(
 fn mutants(arguments: &Arguments) -> bool {
     let seed = arguments.seed;
     let most = arguments.cases.unwrap_or(mutants::MOST_CASES);
-    println!("{:<60}{:>8}", "wrong library", "cases");
-    let libraries = mutants::all().into_iter().map(|mutant| {
-        let caught = mutants::caught_after(mutant.wrong, seed, most);
-        print_caught(mutant.name, caught)
-    });
-    let mut caught: Vec<bool> = libraries.collect();
+    let mut caught: Vec<bool> = Vec::new();
+    for (call, wrong) in mutants::all() {
+        println!("{:<60}{:>8}", format!("wrong {}", call.name), "cases");
+        caught.extend(wrong.iter().map(|mutant| {
+            let caught = mutants::caught_after(call, mutant.wrong, seed, most);
+            print_caught(mutant.name, caught)
+        }));
+    }
     let most = arguments.cases.unwrap_or(DEFAULT_QUESTIONS);
     println!("{:<60}{:>8}", "wrong text of follow", "cases");
     caught.extend(following::WRONG_TEXTS.iter().map(|mutant| {

@@ -21,6 +21,8 @@ macro_rules! mutants {
 
 pub mod following;
 mod judging;
+mod lake_stages;
+mod lakes;
 mod network;
 mod writing;
 
@@ -34,7 +36,7 @@ use second::network_record;
 use second::passes::{chosen_passes, crossings, passes, Crossing};
 use second::refusal::Refusal;
 
-use crate::cases::specimen;
+use crate::calls::{self, Call};
 use crate::comparison::compare;
 use crate::library::Library;
 use crate::tally::Tally;
@@ -49,16 +51,29 @@ pub struct Mutant<W> {
     pub wrong: W,
 }
 
-/// Every wrong library.
-pub fn all() -> Vec<Mutant<Library>> {
-    [network::MUTANTS, judging::MUTANTS, writing::MUTANTS].concat()
+/// A call, and every wrong library for it.
+pub type WrongCalls = (&'static Call, Vec<Mutant<Library>>);
+
+/// Each call with its wrong libraries.
+pub fn all() -> [WrongCalls; 2] {
+    let of_network = [network::MUTANTS, judging::MUTANTS, writing::MUTANTS].concat();
+    [
+        (&calls::NETWORK, of_network),
+        (&calls::LAKES, lakes::MUTANTS.to_vec()),
+    ]
 }
 
-/// After how many cases of the default families a library is caught, if it is.
-pub fn caught_after(library: Library, seed: u64, most_cases: u64) -> Option<u64> {
-    let mut tally = Tally::default();
+/// After how many cases of the call's families a library is caught, if it is.
+pub fn caught_after(
+    call: &'static Call,
+    library: Library,
+    seed: u64,
+    most_cases: u64,
+) -> Option<u64> {
+    let mut tally = Tally::of(call);
     for index in 0.. {
-        if compare(library, &specimen(seed, index), &mut tally).is_some() {
+        let specimen = call.cases.specimen(seed, index);
+        if compare(call, library, &specimen, &mut tally).is_some() {
             return Some(tally.cases());
         }
         if tally.cases() >= most_cases {
@@ -151,16 +166,24 @@ mod tests {
 
     #[test]
     fn the_right_stages_are_not_caught() {
-        let right: Library = |ground, network| call(&RIGHT, ground, network);
-        assert_eq!(caught_after(right, 1, MOST_CASES), None);
-        assert_eq!(caught_after(second::call, 1, MOST_CASES), None);
+        let right: [(_, Library); 4] = [
+            (&calls::NETWORK, |ground, room| call(&RIGHT, ground, room)),
+            (&calls::NETWORK, second::call),
+            (&calls::LAKES, |ground, room| {
+                lake_stages::call(&lake_stages::RIGHT, ground, room)
+            }),
+            (&calls::LAKES, second::lakes_call),
+        ];
+        for (call, library) in right {
+            assert_eq!(caught_after(call, library, 1, MOST_CASES), None);
+        }
     }
 
     #[test]
     fn every_mutant_is_caught() {
-        for mutant in all() {
-            for seed in [1, 2] {
-                let caught = caught_after(mutant.wrong, seed, MOST_CASES);
+        for (call, mutants) in all() {
+            for (mutant, seed) in mutants.iter().flat_map(|mutant| [(mutant, 1), (mutant, 2)]) {
+                let caught = caught_after(call, mutant.wrong, seed, MOST_CASES);
                 assert!(caught.is_some(), "seed {seed} misses: {}", mutant.name);
             }
         }
@@ -179,18 +202,22 @@ mod tests {
             "rule 5: each basin over its own lowest pass",
             "rule 6: near cell not joined to far cell",
         ] {
-            let mutant = all().into_iter().find(|mutant| mutant.name == name);
+            let [(call, mutants), _] = all();
+            let mutant = mutants.iter().find(|mutant| mutant.name == name);
             let library = mutant.unwrap_or_else(|| panic!("no {name}")).wrong;
-            assert!(caught_after(library, 3, 100).is_some(), "missed: {name}");
+            let caught = caught_after(call, library, 3, 100);
+            assert!(caught.is_some(), "missed: {name}");
         }
     }
 
     #[test]
     fn there_are_mutants_enough_and_no_name_comes_twice() {
-        let mut names: Vec<&str> = all().iter().map(|mutant| mutant.name).collect();
-        names.sort();
-        names.dedup();
-        assert_eq!(names.len(), all().len());
-        assert!(names.len() >= 20);
+        for (_, mutants) in all() {
+            let mut names: Vec<&str> = mutants.iter().map(|mutant| mutant.name).collect();
+            names.sort();
+            names.dedup();
+            assert_eq!(names.len(), mutants.len());
+            assert!(names.len() >= 20);
+        }
     }
 }

@@ -1,4 +1,4 @@
-//! The C call in a program of its own, behind a pipe: for machines that can't link the library.
+//! The C calls in a program of their own, behind a pipe: for machines that can't link the libraries.
 //! `emulated/call.cpp` is that program, and `ASKVIMUR_CALL` names what starts it.
 
 use std::env;
@@ -6,8 +6,20 @@ use std::io::{self, Read, Write};
 use std::process::{Child, ChildStdin, ChildStdout, Command, Stdio};
 use std::sync::{Mutex, OnceLock};
 
+use crate::library::Libraries;
+
 /// The variable that names the program.
 pub const VARIABLE: &str = "ASKVIMUR_CALL";
+
+pub const LIBRARIES: Libraries = Libraries {
+    description: "the C calls of libaskvimur.a and libaskvimur_service.a, behind a pipe",
+    askvimur_network: |ground, network| called(NETWORK, ground, network),
+    askvimur_lakes: |ground, lakes| called(LAKES, ground, lakes),
+};
+
+/// The numbers by which the program knows the calls.
+const NETWORK: u32 = 0;
+const LAKES: u32 = 1;
 
 /// The running program and its two pipes.
 struct Pipe {
@@ -22,14 +34,14 @@ pub fn is_named() -> bool {
 }
 
 /// Makes the call there. A byte that is altered without having been lent ends the comparison.
-pub fn network(ground: &[u8], network: &mut [u8]) -> u32 {
+fn called(number: u32, ground: &[u8], room: &mut [u8]) -> u32 {
     static PIPE: OnceLock<Mutex<Pipe>> = OnceLock::new();
     let pipe =
         PIPE.get_or_init(|| Mutex::new(started().expect("the program behind the pipe starts")));
     let (answer, kept) = pipe
         .lock()
         .expect("no call before this one panicked")
-        .call(ground, network)
+        .call(number, ground, room)
         .expect("the program behind the pipe answers");
     assert!(kept, "a byte that was not lent for writing is altered");
     answer
@@ -50,18 +62,18 @@ fn started() -> io::Result<Pipe> {
 
 impl Pipe {
     /// The answer, and whether every byte that was not lent for writing is as it was.
-    fn call(&mut self, ground: &[u8], network: &mut [u8]) -> io::Result<(u32, bool)> {
-        let mut call = Vec::with_capacity(8 + ground.len() + network.len());
-        for length in [ground.len(), network.len()] {
-            call.extend((length as u32).to_le_bytes());
+    fn call(&mut self, number: u32, ground: &[u8], room: &mut [u8]) -> io::Result<(u32, bool)> {
+        let mut call = Vec::with_capacity(12 + ground.len() + room.len());
+        for number in [number, ground.len() as u32, room.len() as u32] {
+            call.extend(number.to_le_bytes());
         }
         call.extend_from_slice(ground);
-        call.extend_from_slice(network);
+        call.extend_from_slice(room);
         self.calls.write_all(&call)?;
         self.calls.flush()?;
         let answer = self.number()?;
         let kept = self.number()? == 1;
-        self.outcomes.read_exact(network)?;
+        self.outcomes.read_exact(room)?;
         Ok((answer, kept))
     }
 

@@ -195,7 +195,7 @@ pub fn spiral_corridor(chance: &mut Chance, size: Size) -> Vec<i32> {
 }
 
 /// The cells of a path from the first cell inwards, its windings so many cells apart.
-fn spiral(size: Size, apart: i32) -> Vec<usize> {
+pub fn spiral(size: Size, apart: i32) -> Vec<usize> {
     let (width, height) = (size.width as i32, size.height as i32);
     let mut on_path = vec![false; size.cells()];
     let (mut row, mut column) = (0, 0);

@@ -3,6 +3,8 @@
 use std::fmt;
 use std::time::Duration;
 
+use crate::calls::Call;
+
 /// What one family came to.
 #[derive(Clone, Debug)]
 struct Row {
@@ -13,33 +15,43 @@ struct Row {
     second: Duration,
 }
 
-/// What a whole run came to.
-#[derive(Clone, Debug, Default)]
+/// What a whole run of one call came to.
 pub struct Tally {
+    call: &'static Call,
     rows: Vec<Row>,
-    /// How often the second program gave each number, 1 to 7.
-    refusals: [u64; 8],
+    /// How often each of the call's kinds of answer came.
+    kinds: Vec<u64>,
     pub differences: u64,
 }
 
 impl Tally {
-    /// Counts one call, by the second program's answer.
+    /// Before the first case.
+    pub fn of(call: &'static Call) -> Tally {
+        Tally {
+            call,
+            rows: Vec::new(),
+            kinds: vec![0; call.kinds.len()],
+            differences: 0,
+        }
+    }
+
+    /// Counts one case by the second program's answer, with the times of library and second program.
     pub fn count(
         &mut self,
         family: &'static str,
         answer: u32,
-        library: Duration,
-        second: Duration,
+        room: usize,
+        (library, second): (Duration, Duration),
     ) {
         let row = self.row(family);
         row.library += library;
         row.second += second;
         match answer < 65_536 {
             true => row.accepted += 1,
-            false => {
-                row.refused += 1;
-                self.refusals[(answer / 65_536) as usize] += 1;
-            }
+            false => row.refused += 1,
+        }
+        for (kind, times) in self.call.kinds.iter().zip(&mut self.kinds) {
+            *times += u64::from(kind.fits(answer, room));
         }
     }
 
@@ -63,12 +75,13 @@ impl Tally {
         self.rows.iter().map(|row| row.accepted + row.refused).sum()
     }
 
-    /// The refusal number given least often, and how often.
-    pub fn rarest_refusal(&self) -> (usize, u64) {
-        (1..8)
-            .map(|number| (number, self.refusals[number]))
+    /// The kind of refusal given least often, and how often.
+    pub fn rarest_refusal(&self) -> (&'static str, u64) {
+        let counted = self.call.kinds.iter().zip(&self.kinds);
+        counted
+            .map(|(kind, &times)| (kind.name, times))
             .min_by_key(|&(_, times)| times)
-            .expect("there are seven numbers")
+            .expect("each call has kinds of refusal")
     }
 }
 
@@ -77,7 +90,7 @@ impl fmt::Display for Tally {
         writeln!(
             to,
             "{:<24}{:>10}{:>10}{:>10}{:>12}{:>12}",
-            "family", "cases", "accepted", "refused", "library ms", "second ms"
+            self.call.name, "cases", "accepted", "refused", "library ms", "second ms"
         )?;
         for row in &self.rows {
             let (accepted, refused) = (row.accepted, row.refused);
@@ -91,8 +104,8 @@ impl fmt::Display for Tally {
             )?;
         }
         write!(to, "refusals")?;
-        for number in 1..8 {
-            write!(to, "   {number}: {}", self.refusals[number])?;
+        for (kind, times) in self.call.kinds.iter().zip(&self.kinds) {
+            write!(to, "   {}: {times}", kind.name)?;
         }
         Ok(())
     }

@@ -17,8 +17,10 @@ fn last_line(output: &Output) -> String {
 #[test]
 fn no_difference_gives_status_0() {
     let output = run(&["--cases", "400", "--seed", "9"]);
-    // 400 generated calls and every 3 by 3 tile.
-    assert_eq!(last_line(&output), "compare: 177547 cases, 0 differences");
+    // 400 networks and 120 lists of lakes, every 3 by 3 tile for both, and 240 worked examples.
+    let cases = 400 + 120 + 2 * 177_147 + 240;
+    let wanted = format!("compare: {cases} cases, 0 differences");
+    assert_eq!(last_line(&output), wanted);
     assert_eq!(output.status.code(), Some(0));
 }
 

@@ -13,11 +13,11 @@ use Rattle.groups.proofs.find.Statement.{statement}
 use Rattle.groups.proofs.find.Tie as tie
 
 abbrev Inv-loop : tie.InvT-loop
-Inv-loop group₀ x₀ group x =
-    (length group ≡ length group₀) × (x < length group) × SameGroups group₀ group × (rootOf group₀ x ≡ rootOf group₀ x₀)
+Inv-loop group₀ b x₀ group x =
+    (length group ≡ length group₀) × (x < length group) × SameGroups group₀ group × (rootOf group₀ x ≡ rootOf group₀ b)
 
 abbrev μ-loop : tie.MeasureT-loop
-μ-loop group₀ x₀ group x = x
+μ-loop group₀ b x₀ group x = x
 
 loop-holds : tie.Need-loop-holds Inv-loop μ-loop
 loop-holds c = (refl, c .pre .0, record { down = c .pre .1; roots = λ x. refl }, refl)

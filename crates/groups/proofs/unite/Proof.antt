@@ -14,8 +14,8 @@ both : (c : tie.After-find2)
     → let one = c .before .before .before .before in
     let a = one .before .before .before .args in
     let h = c .find2 .last .0 in
-    let p = one .find .result .0 in
-    let q = c .find2 .result .0 in
+    let p = one .find .result in
+    let q = c .find2 .result in
     Searched (a .group .now) (a .a .0) (a .b .0) h p q × Root h p × Root h q
 both c =
     let one = c .before .before .before .before in
@@ -27,14 +27,14 @@ both c =
     (s, one-root s la, other-root s lb)
 
 returns : tie.Need-returns
-returns c = one-already (both (c .before .before .before .before .before) .0) (c .if1 .taken)
+returns c = one-already (both (c .before .before .before) .0) (c .if1 .taken)
 
 hang-requires : tie.Need-hang-requires
-hang-requires c κs = let b = both (c .before .before .before .before .before .before) in (b .0 .groups .down, b .1, b .2)
+hang-requires c κs = let b = both (c .before .before .before .before) in (b .0 .groups .down, b .1, b .2)
 
 returns-2 : tie.Need-returns-2
 returns-2 c =
-    let b = both (c .before .before .before .before .before .before .before .before .before) in
+    let b = both (c .before .before .before .before .before .before .before) in
     let j = c .before .before .hang in
     two-joined (b .0) (j .last .0) (b .1) (b .2) (c .before .before .before .before .if1 .left) (j .ensures)
 

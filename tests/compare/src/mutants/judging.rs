@@ -67,7 +67,7 @@ pub const MUTANTS: &[Mutant<Library>] = mutants![
 ];
 
 /// One row of the table, for a record of 16 bytes or more and the length of the room lent.
-type Test = fn(&[u8], usize) -> Result<(), Refusal>;
+pub type Test = fn(&[u8], usize) -> Result<(), Refusal>;
 
 /// The rows in their order, which is that of their names.
 const TABLE: [Test; 7] = [
@@ -85,12 +85,12 @@ const TABLE: [Test; 7] = [
     |record, _| judge_outlets(&ground(record).marks),
 ];
 const SIZE: usize = 0;
-const LENGTH: usize = 1;
-const DISTANCES: usize = 2;
+pub const LENGTH: usize = 1;
+pub const DISTANCES: usize = 2;
 const ROOM: usize = 3;
-const HEIGHTS: usize = 4;
-const MARKS: usize = 5;
-const OUTLETS: usize = 6;
+pub const HEIGHTS: usize = 4;
+pub const MARKS: usize = 5;
+pub const OUTLETS: usize = 6;
 
 /// A record judged by the changed table.
 pub fn judged(record: &[u8], room: usize, change: fn(&mut [Test; 7])) -> Result<Ground, Refusal> {
@@ -119,7 +119,7 @@ fn ground(record: &[u8]) -> Ground {
     lists(record, size_named(record))
 }
 
-fn must(holds: bool, why: Refusal) -> Result<(), Refusal> {
+pub fn must(holds: bool, why: Refusal) -> Result<(), Refusal> {
     holds.then_some(()).ok_or(why)
 }
 

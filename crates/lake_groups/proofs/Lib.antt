@@ -1,0 +1,5 @@
+pub mod Ways
+pub mod Numbering
+pub mod Sweeping
+pub mod Gathers
+pub mod OneOutcome

@@ -1,0 +1,9 @@
+pub mod CellByCell
+pub mod Storing
+pub mod Walking
+pub mod Turns
+pub mod Gathering
+pub mod Splitting
+pub mod Outermost
+pub mod WetLakes
+pub mod OneOutcome

@@ -1,0 +1,4 @@
+pub mod Rows
+pub mod Measured
+pub mod Listing
+pub mod Outermost

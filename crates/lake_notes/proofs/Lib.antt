@@ -1,0 +1,13 @@
+pub mod Cuts
+pub mod Lows
+pub mod Chains
+pub mod FlagSteps
+pub mod Steps
+pub mod Ending
+pub mod WetCells
+pub mod WetPairs
+pub mod PairTurns
+pub mod Sorting
+pub mod Climbs
+pub mod Turns
+pub mod OneOutcome

@@ -1,0 +1,4 @@
+pub mod TileLevels
+pub mod FoundLakes
+pub mod ReadLakes
+pub mod OneOutcome

@@ -1,0 +1,2 @@
+pub mod LakeText
+pub mod Samples
