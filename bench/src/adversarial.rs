@@ -1,5 +1,5 @@
 //! The adversarial tiles: 64 by 64, each family made to be slow. They are measured apart from the mix, tile by tile. Those here are for
-//! the network; `slow_lakes.rs` has the families for lakes.
+//! the network; `slow_lakes.rs` has the families for lakes, and `slow_diagonals.rs` those for 8 neighbours.
 
 use compare::chance::Chance;
 use compare::families;

@@ -4,6 +4,7 @@ pub mod adversarial;
 pub mod plain;
 pub mod plain_lakes;
 pub mod race;
+pub mod slow_diagonals;
 pub mod slow_lakes;
 pub mod slow_reliefs;
 pub mod tiles;

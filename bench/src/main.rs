@@ -6,7 +6,7 @@ use std::process::ExitCode;
 use bench::adversarial::{self, Family};
 use bench::race::{Best, Race, Times};
 use bench::tiles::{tile, Tile};
-use bench::{slow_lakes, tiles};
+use bench::{slow_diagonals, slow_lakes, tiles};
 use compare::library::under_test;
 
 /// How many tiles of the mix a run takes when nothing else is asked for.
@@ -34,15 +34,31 @@ fn main() -> ExitCode {
         "{count} tiles of 64 by 64, seed {SEED}; each time is the least of {ROUNDS} runs or more"
     );
     let mix: Vec<Tile> = (0..count).map(|number| tile(SEED, number)).collect();
-    let mut network = Run::new(Race::network(), &mix, &[&adversarial::FAMILIES]);
-    let mut lakes = Run::new(
-        Race::lakes(),
-        &mix,
-        &[&slow_lakes::FAMILIES, &adversarial::FAMILIES],
-    );
-    measure(&mix, [&mut network, &mut lakes]);
-    print_both(&mix, &network, &lakes);
+    let mut runs = Runs {
+        network: Run::new(Race::network(), &mix, &[&adversarial::FAMILIES]),
+        lakes: Run::new(
+            Race::lakes(),
+            &mix,
+            &[&slow_lakes::FAMILIES, &adversarial::FAMILIES],
+        ),
+        by_8: Run::new(
+            Race::network_by_8(),
+            &mix,
+            &[&slow_diagonals::FAMILIES, &adversarial::FAMILIES],
+        ),
+        by_4: Run::new(Race::network_by_4(), &mix, &[]),
+    };
+    measure(&mix, &mut runs);
+    print_all(&mix, &runs);
     ExitCode::SUCCESS
+}
+
+/// All that is measured.
+struct Runs {
+    network: Run,
+    lakes: Run,
+    by_8: Run,
+    by_4: Run,
 }
 
 /// One call, its adversarial tiles, and the least time of every tile.
@@ -86,11 +102,16 @@ impl Run {
 
 /// The least times of every tile. All others are run between two runs of the same one, so that its runs are far apart, and the calls
 /// take turns, so that they meet the machine in the same state.
-fn measure(mix: &[Tile], mut runs: [&mut Run; 2]) {
+fn measure(mix: &[Tile], runs: &mut Runs) {
     let part = mix.len().div_ceil(OFTENER);
     for _ in 0..ROUNDS {
         for (number, tiles) in mix.chunks(part).enumerate() {
-            for run in &mut runs {
+            for run in [
+                &mut runs.network,
+                &mut runs.lakes,
+                &mut runs.by_8,
+                &mut runs.by_4,
+            ] {
                 let end = number * part + tiles.len();
                 run.race.round(tiles, &mut run.mix_best[number * part..end]);
                 run.round_of_slow();
@@ -99,28 +120,41 @@ fn measure(mix: &[Tile], mut runs: [&mut Run; 2]) {
     }
 }
 
-/// Two tables for each call and its figures, a line each. The last line is the ratio of the network over the mix.
-fn print_both(mix: &[Tile], network: &Run, lakes: &Run) {
+/// The tables of each call and its figures, a line each. The last line is the ratio of the network over the mix.
+fn print_all(mix: &[Tile], runs: &Runs) {
     println!("\nthe network");
-    let (network_mix, family) = print_mix(mix, &network.mix_best);
+    let (network_mix, family) = print_mix(mix, &runs.network.mix_best);
     println!("greatest ratio of a family: {family}");
     let mean = network_mix.means().0;
-    let (slowest, name) = print_slow(&network.slow[0], mean);
+    let (slowest, name) = print_all_slow(&runs.network, mean);
     println!("slowest adversarial tile: {slowest:.2} times the mean ({name})");
 
     println!("\nthe lakes");
-    let (lakes_mix, family) = print_mix(mix, &lakes.mix_best);
+    let (lakes_mix, family) = print_mix(mix, &runs.lakes.mix_best);
     println!("greatest lakes ratio of a family: {family}");
     let lakes_mean = lakes_mix.means().0;
-    let slowest = lakes.slow.iter().map(|slow| print_slow(slow, lakes_mean));
-    let slowest = slowest.max_by(|(one, _), (other, _)| one.total_cmp(other));
-    let (slowest, name) = slowest.expect("there are adversarial tiles");
+    let (slowest, name) = print_all_slow(&runs.lakes, lakes_mean);
     println!(
         "slowest lakes tile: {:.3} ms ({name})",
         slowest * lakes_mean / 1_000.0
     );
     println!("lakes to network: {:.3}", lakes_mean / mean);
     println!("lakes to plain: {:.3}", lakes_mix.ratio());
+
+    println!("\nthe network by 8 neighbours");
+    let (by_8, family) = print_mix(mix, &runs.by_8.mix_best);
+    println!("greatest ratio of a family by 8: {family}");
+    let by_8_mean = by_8.means().0;
+    let (slowest, name) = print_all_slow(&runs.by_8, by_8_mean);
+    println!("slowest tile by 8: {slowest:.2} times its mean ({name})");
+
+    println!("\nthe same call, told 4");
+    let (by_4, family) = print_mix(mix, &runs.by_4.mix_best);
+    println!("greatest ratio of a family by 4: {family}");
+    println!("by 4 to plain: {:.3}", by_4.ratio());
+    println!("by 4 to network: {:.3}", by_4.means().0 / mean);
+    println!("by 8 to network: {:.3}", by_8_mean / mean);
+    println!("by 8 to plain: {:.3}", by_8.ratio());
     println!("ratio {:.3}", network_mix.ratio());
 }
 
@@ -142,6 +176,13 @@ fn print_mix(mix: &[Tile], best: &[Best]) -> (Times, String) {
     }
     println!("{}", row("all", &all));
     (all, format!("{:.3} ({})", greatest.0, greatest.1))
+}
+
+/// All adversarial tables of a call. The answer is the slowest tile of all, in the mean time of the mix, and its name.
+fn print_all_slow(run: &Run, mean: f64) -> (f64, String) {
+    let slowest = run.slow.iter().map(|slow| print_slow(slow, mean));
+    let slowest = slowest.max_by(|(one, _), (other, _)| one.total_cmp(other));
+    slowest.expect("there are adversarial tiles")
 }
 
 /// The same for adversarial families, with the slowest tile of each. The answer is the slowest of all, in the mean time of the mix.

@@ -1,12 +1,20 @@
-//! The plain Rust version: the C call as a Rust engineer would write it in an afternoon.
+//! The plain Rust version: the C calls for a network as a Rust engineer would write them in an afternoon.
 //! All checks, record in, record out; crossings sorted by the standard library, union-find,
 //! carving by reversal. Its lists are kept between tiles, so that no time goes to allocation.
+//! What differs with 8 neighbours is rule 1, by steepness, and that crossings include diagonals.
 
 /// Width and height are at most this.
 const MOST: usize = 64;
 
 /// No cell, no pass.
 const NONE: u32 = u32::MAX;
+
+/// The neighbours that can be asked for.
+#[derive(Clone, Copy, PartialEq, Eq)]
+pub(crate) enum Neighbours {
+    Four,
+    Eight,
+}
 
 /// The lists that are kept between tiles.
 #[derive(Default)]
@@ -53,9 +61,22 @@ pub(crate) fn refused(number: u32, place: usize) -> u32 {
 }
 
 impl Plain {
-    /// The C call: refusal number times 65,536 plus place, or the length written.
+    /// The console's call: refusal number times 65,536 plus place, or the length written.
     pub fn call(&mut self, ground: &[u8], network: &mut [u8]) -> u32 {
-        match self.work_out(ground, network.len()) {
+        self.network(Neighbours::Four, ground, network)
+    }
+
+    /// The service's call, which is told the neighbours.
+    pub fn call_by(&mut self, neighbours: u32, ground: &[u8], network: &mut [u8]) -> u32 {
+        match neighbours {
+            4 => self.network(Neighbours::Four, ground, network),
+            8 => self.network(Neighbours::Eight, ground, network),
+            _ => refused(11, 0),
+        }
+    }
+
+    fn network(&mut self, neighbours: Neighbours, ground: &[u8], network: &mut [u8]) -> u32 {
+        match self.work_out(neighbours, ground, network.len()) {
             Ok(()) => {}
             Err(refusal) => return refusal,
         }
@@ -66,13 +87,21 @@ impl Plain {
     }
 
     /// All of the network but the drainage, or why the ground or the room is refused.
-    pub(crate) fn work_out(&mut self, ground: &[u8], room: usize) -> Result<(), u32> {
+    pub(crate) fn work_out(
+        &mut self,
+        neighbours: Neighbours,
+        ground: &[u8],
+        room: usize,
+    ) -> Result<(), u32> {
         self.read(ground, room)?;
         let cells = self.width * self.height;
         let marks = &ground[4 * cells..5 * cells];
-        self.find_first_receivers(marks);
+        match neighbours {
+            Neighbours::Four => self.find_first_receivers(marks, Plain::lowest_around),
+            Neighbours::Eight => self.find_first_receivers(marks, Plain::steepest_around),
+        }
         self.label_basins();
-        self.find_crossings();
+        self.find_crossings(neighbours);
         self.choose_passes(marks);
         self.carve(marks);
         self.find_order();
@@ -120,14 +149,18 @@ impl Plain {
         }
     }
 
-    fn find_first_receivers(&mut self, marks: &[u8]) {
+    fn find_first_receivers(
+        &mut self,
+        marks: &[u8],
+        lower_around: impl Fn(&Plain, usize, usize) -> usize,
+    ) {
         self.receivers.clear();
         for row in 0..self.height {
             for column in 0..self.width {
                 let cell = row * self.width + column;
                 let receiver = match marks[cell] {
                     1 => cell,
-                    _ => self.lowest_around(row, column),
+                    _ => lower_around(self, row, column),
                 };
                 self.receivers.push(receiver as u16);
             }
@@ -148,6 +181,38 @@ impl Plain {
         look(column + 1 < self.width, cell + 1);
         look(row + 1 < self.height, cell + self.width);
         lowest
+    }
+
+    /// The same of the four neighbours at the corners.
+    fn lowest_at_corners(&self, row: usize, column: usize) -> usize {
+        let cell = row * self.width + column;
+        let (mut lowest, mut height) = (cell, self.heights[cell]);
+        let mut look = |there: bool, neighbour: usize| {
+            if there && self.heights[neighbour] < height {
+                (lowest, height) = (neighbour, self.heights[neighbour]);
+            }
+        };
+        let (up, down) = (row > 0, row + 1 < self.height);
+        let (left, right) = (column > 0, column + 1 < self.width);
+        look(up && left, cell.wrapping_sub(self.width + 1));
+        look(up && right, cell.wrapping_sub(self.width - 1));
+        look(down && left, cell + self.width - 1);
+        look(down && right, cell + self.width + 1);
+        lowest
+    }
+
+    /// The steepest of eight neighbours if it is strictly lower, the cell itself otherwise. Of the straight
+    /// ones only the lowest can be it, with a drop a, and so it is with the diagonal ones, with a drop b.
+    fn steepest_around(&self, row: usize, column: usize) -> usize {
+        let height = self.heights[row * self.width + column];
+        let straight = self.lowest_around(row, column);
+        let diagonal = self.lowest_at_corners(row, column);
+        let a = i64::from(height - self.heights[straight]);
+        let b = i64::from(height - self.heights[diagonal]);
+        match b * b > 2 * a * a {
+            true => diagonal,
+            false => straight,
+        }
     }
 
     /// Numbers the singular cells, then labels each way down to the first cell with a label.
@@ -177,7 +242,7 @@ impl Plain {
     }
 
     /// All crossings in ascending order. The least one of two basins is their pass.
-    fn find_crossings(&mut self) {
+    fn find_crossings(&mut self, neighbours: Neighbours) {
         self.crossings.clear();
         for row in 0..self.height {
             for column in 0..self.width {
@@ -187,6 +252,14 @@ impl Plain {
                 }
                 if row + 1 < self.height {
                     self.add_crossing(cell, cell + self.width);
+                }
+                if neighbours == Neighbours::Eight && row + 1 < self.height {
+                    if column > 0 {
+                        self.add_crossing(cell, cell + self.width - 1);
+                    }
+                    if column + 1 < self.width {
+                        self.add_crossing(cell, cell + self.width + 1);
+                    }
                 }
             }
         }
@@ -435,6 +508,23 @@ mod tests {
         }
     }
 
+    /// The same with 4 neighbours, with 8, and with counts that can't be asked for.
+    #[test]
+    fn the_plain_version_agrees_over_the_neighbours_asked_for() {
+        let mut plain = Plain::default();
+        for index in 0..10_000 {
+            let specimen = cases::NETWORK_BY.specimen(11, index);
+            let (neighbours, record) = (specimen.neighbours, &specimen.record);
+            for &room in &specimen.rooms {
+                let (mut found, mut wanted) = (vec![0xA5; room], vec![0xA5; room]);
+                let answer = plain.call_by(neighbours, record, &mut found);
+                let wanted_answer = second::network_by_call(neighbours, record, &mut wanted);
+                assert_eq!(answer, wanted_answer);
+                assert_eq!(found, wanted, "{}, index {index}", specimen.family);
+            }
+        }
+    }
+
     #[test]
     fn the_plain_version_agrees_on_3_by_3_tiles() {
         let mut plain = Plain::default();
@@ -442,10 +532,12 @@ mod tests {
             let ground = exhaustive::tile(number);
             let bytes = record::bytes(&ground);
             let length = network_record::length(ground.size);
-            let (mut found, mut wanted) = (vec![0; length], vec![0; length]);
-            plain.call(&bytes, &mut found);
-            second::call(&bytes, &mut wanted);
-            assert_eq!(found, wanted, "tile {number}");
+            for neighbours in [4, 8] {
+                let (mut found, mut wanted) = (vec![0; length], vec![0; length]);
+                plain.call_by(neighbours, &bytes, &mut found);
+                second::network_by_call(neighbours, &bytes, &mut wanted);
+                assert_eq!(found, wanted, "tile {number}, {neighbours} neighbours");
+            }
         }
     }
 }

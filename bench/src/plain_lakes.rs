@@ -1,7 +1,7 @@
 //! The plain Rust version of the call for lakes, as a Rust engineer would write it in an afternoon: wet cells sorted by height, and
 //! union-find while the water rises over them. Ponds that meet at a height have been lakes of their own up to there.
 
-use crate::plain::{refused, Groups, Plain};
+use crate::plain::{refused, Groups, Neighbours, Plain};
 
 /// No lake.
 const NONE: u32 = u32::MAX;
@@ -52,7 +52,8 @@ pub struct PlainLakes {
 impl PlainLakes {
     /// The C call: refusal number times 65,536 plus place, or the number of lakes.
     pub fn call(&mut self, ground: &[u8], room: &mut [u8]) -> u32 {
-        if let Err(refusal) = self.network.work_out(ground, usize::MAX) {
+        let worked_out = self.network.work_out(Neighbours::Four, ground, usize::MAX);
+        if let Err(refusal) = worked_out {
             return refusal;
         }
         self.find_lakes();

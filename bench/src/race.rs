@@ -85,6 +85,22 @@ impl Race {
         Race::of(under_test().askvimur_network, Box::new(plain))
     }
 
+    /// The network of a tile over 8 neighbours.
+    pub fn network_by_8() -> Race {
+        Race::of(
+            |ground, room| (under_test().askvimur_network_by)(8, ground, room),
+            plain_by(8),
+        )
+    }
+
+    /// The same call, told 4.
+    pub fn network_by_4() -> Race {
+        Race::of(
+            |ground, room| (under_test().askvimur_network_by)(4, ground, room),
+            plain_by(4),
+        )
+    }
+
     /// The lakes of a tile.
     pub fn lakes() -> Race {
         let mut plain = PlainLakes::default();
@@ -130,6 +146,12 @@ impl Race {
             best.plain = best.plain.min(plain.time);
         }
     }
+}
+
+/// The plain version's call that is told the neighbours.
+fn plain_by(neighbours: u32) -> PlainCall {
+    let mut plain = Plain::default();
+    Box::new(move |ground, room| plain.call_by(neighbours, ground, room))
 }
 
 /// What one run of one side came to.

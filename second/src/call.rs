@@ -1,27 +1,46 @@
-//! The C call as a Rust function: ground record in, network record out, one number back.
+//! The C calls for a network as Rust functions: ground record in, network record out, one number back.
 
-use crate::network::network;
+use crate::ground::Ground;
+use crate::neighbours::Neighbours;
+use crate::network::network_by;
 use crate::network_record;
 use crate::record;
 use crate::refusal::Refusal;
 
-/// The refusal number times 65,536 plus the place, or the length written.
+/// Document 01's call: the refusal number times 65,536 plus the place, or the length written.
 pub fn call(ground: &[u8], network: &mut [u8]) -> u32 {
-    match write_network(ground, network) {
+    answer(write_network(Neighbours::Four, ground, network))
+}
+
+/// W-203's call, with the count of neighbours that is asked for, which is judged before all else.
+pub fn network_by_call(neighbours: u32, ground: &[u8], network: &mut [u8]) -> u32 {
+    let neighbours = Neighbours::asked_for(neighbours);
+    answer(neighbours.and_then(|neighbours| write_network(neighbours, ground, network)))
+}
+
+fn answer(written: Result<usize, Refusal>) -> u32 {
+    match written {
         Ok(length) => length as u32,
         Err(refusal) => refusal.answer(),
     }
 }
 
-/// Judges in the order of the table, and writes only when all has been judged.
-fn write_network(ground: &[u8], room: &mut [u8]) -> Result<usize, Refusal> {
-    let size = record::judge_frame(ground)?;
-    let length = network_record::length(size);
-    if room.len() < length {
+/// Writes only when all has been judged.
+fn write_network(neighbours: Neighbours, ground: &[u8], room: &mut [u8]) -> Result<usize, Refusal> {
+    let ground = judge(ground, room.len())?;
+    let network = network_by(neighbours, &ground);
+    let bytes = network_record::bytes(&network, ground.size);
+    room[..bytes.len()].copy_from_slice(&bytes);
+    Ok(bytes.len())
+}
+
+/// Judges a ground record and the length of a room for its network, in the order of the table.
+pub fn judge(record: &[u8], room: usize) -> Result<Ground, Refusal> {
+    let size = record::judge_frame(record)?;
+    if room < network_record::length(size) {
         return Err(Refusal::Room);
     }
-    let ground = record::lists(ground, size);
+    let ground = record::lists(record, size);
     ground.judge_cells()?;
-    room[..length].copy_from_slice(&network_record::bytes(&network(&ground), size));
-    Ok(length)
+    Ok(ground)
 }

@@ -1,5 +1,6 @@
-//! Ground: a tile's size and its three lists, who neighbours whom, and what makes it refused.
+//! Ground: a tile's size and its three lists, and what makes it refused.
 
+use crate::neighbours::Neighbours;
 use crate::refusal::Refusal;
 
 /// A cell number: row times width plus column. Kept apart from basin numbers by its type.
@@ -60,18 +61,22 @@ impl Size {
         }
     }
 
-    /// The cells that share a side with this one, by ascending number.
+    /// The row and the column of a cell, each from 0.
+    pub fn row_and_column(self, cell: Cell) -> (usize, usize) {
+        (cell.index() / self.width, cell.index() % self.width)
+    }
+
+    /// Whether a neighbour is a diagonal one: in another row and in another column.
+    pub fn is_diagonal(self, cell: Cell, neighbour: Cell) -> bool {
+        let (row, column) = self.row_and_column(cell);
+        let (other_row, other_column) = self.row_and_column(neighbour);
+        row != other_row && column != other_column
+    }
+
+    /// Document 01's neighbours of a cell, by ascending number: those that share a side with it.
+    /// What can't be asked for others keeps to them.
     pub fn neighbours(self, cell: Cell) -> impl Iterator<Item = Cell> {
-        let index = cell.index();
-        let (row, column) = (index / self.width, index % self.width);
-        let above = (row > 0).then(|| index - self.width);
-        let left = (column > 0).then(|| index - 1);
-        let right = (column + 1 < self.width).then_some(index + 1);
-        let below = (row + 1 < self.height).then_some(index + self.width);
-        [above, left, right, below]
-            .into_iter()
-            .flatten()
-            .map(Cell::at)
+        Neighbours::Four.of(cell, self)
     }
 }
 

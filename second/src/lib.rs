@@ -17,6 +17,7 @@ pub mod groups;
 pub mod lake_list;
 pub mod lakes;
 pub mod lakes_text;
+pub mod neighbours;
 pub mod network;
 pub mod network_record;
 pub mod passes;
@@ -27,5 +28,5 @@ pub mod text;
 pub mod trace;
 pub mod vectors;
 
-pub use call::call;
+pub use call::{call, network_by_call};
 pub use lake_list::lakes_call;

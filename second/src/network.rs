@@ -5,6 +5,7 @@ use crate::carving::{carve, outflows};
 use crate::first_receivers::first_receivers;
 use crate::flow::{drainage, levels, order, wet};
 use crate::ground::{Basin, Cell, Ground};
+use crate::neighbours::Neighbours;
 use crate::passes::{chosen_passes, crossings, passes};
 use crate::refusal::Refusal;
 
@@ -25,11 +26,16 @@ pub fn network_of_lists(ground: &Ground) -> Result<Network, Refusal> {
     Ok(network(ground))
 }
 
-/// The network of a ground that has been judged.
+/// Document 01's network of a ground that has been judged.
 pub fn network(ground: &Ground) -> Network {
-    let first_receivers = first_receivers(ground);
+    network_by(Neighbours::Four, ground)
+}
+
+/// The network over the neighbours asked for, of a ground that has been judged.
+pub fn network_by(neighbours: Neighbours, ground: &Ground) -> Network {
+    let first_receivers = first_receivers(neighbours, ground);
     let basins = basins(&first_receivers);
-    let crossings = crossings(ground, &basins);
+    let crossings = crossings(neighbours, ground, &basins);
     let passes = passes(&crossings, &basins);
     let chosen = chosen_passes(&passes, &basins, ground);
     let outflows = outflows(&chosen, &basins, ground);

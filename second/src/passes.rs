@@ -3,6 +3,7 @@
 use crate::basins::Basins;
 use crate::ground::{Basin, Cell, Ground};
 use crate::groups::Groups;
+use crate::neighbours::Neighbours;
 
 /// Two neighbours in different basins.
 /// The order of the fields is the order of comparison: height, lesser cell, greater cell.
@@ -13,11 +14,11 @@ pub struct Crossing {
     pub greater: Cell,
 }
 
-/// Rule 3: all crossings of the tile.
-pub fn crossings(ground: &Ground, basins: &Basins) -> Vec<Crossing> {
+/// Rule 3: all crossings of the tile, over the neighbours asked for.
+pub fn crossings(neighbours: Neighbours, ground: &Ground, basins: &Basins) -> Vec<Crossing> {
     let mut crossings = Vec::new();
     for lesser in ground.cells() {
-        for greater in ground.size.neighbours(lesser) {
+        for greater in neighbours.of(lesser, ground.size) {
             if lesser < greater && basins.of(lesser) != basins.of(greater) {
                 crossings.push(Crossing {
                     height: ground.height(lesser).max(ground.height(greater)),

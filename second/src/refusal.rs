@@ -5,6 +5,8 @@ use crate::ground::Cell;
 /// One case for each refusing row of the table, in the order of the table.
 #[derive(Clone, Copy, Debug, PartialEq, Eq)]
 pub enum Refusal {
+    /// 11: a count of neighbours other than 4 or 8.
+    Neighbours,
     /// 1: width or height is 0 or above 64.
     Size,
     /// 2: a list or a record has not the length it should have.
@@ -31,6 +33,7 @@ impl Refusal {
     /// The number in the table's first column.
     pub fn number(self) -> u32 {
         match self {
+            Refusal::Neighbours => 11,
             Refusal::Size => 1,
             Refusal::Length => 2,
             Refusal::Distance => 7,

@@ -38,14 +38,14 @@ impl Vector {
         }
     }
 
-    /// Makes a call that takes a ground record and a room, and says whether it does as the line says:
-    /// the answer, what is written, and no byte more.
-    pub fn holds(&self, call: fn(&[u8], &mut [u8]) -> u32) -> bool {
+    /// Makes a call, which takes of the line what it is handed, and says whether it does as the line
+    /// says: the answer, what is written into the room, and no byte more.
+    pub fn holds(&self, call: impl Fn(&Vector, &mut [u8]) -> u32) -> bool {
         let before: Vec<u8> = (0..self.room).map(|at| (at * 167 + 13) as u8).collect();
         let mut wanted = before.clone();
         wanted[..self.output.len()].copy_from_slice(&self.output);
         let mut room = before;
-        call(&self.input, &mut room) == self.answer && room == wanted
+        call(self, &mut room) == self.answer && room == wanted
     }
 }
 

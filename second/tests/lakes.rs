@@ -1,26 +1,11 @@
 //! Lakes by hand: the list of each sample as text and as bytes, and the refusals of the call.
 
+mod tiles;
+
 use second::ground::{Ground, Size};
 use second::lakes_text::text;
 use second::{lakes_call, record};
-
-/// A tile of rows of equal width. The outlets are named by their cells.
-fn tile(rows: &[&[i32]], outlets: &[usize]) -> Ground {
-    let heights = rows.concat();
-    let mut marks = vec![0; heights.len()];
-    for &outlet in outlets {
-        marks[outlet] = 1;
-    }
-    Ground {
-        size: Size {
-            width: rows[0].len(),
-            height: rows.len(),
-        },
-        water: vec![1; heights.len()],
-        heights,
-        marks,
-    }
-}
+use tiles::tile;
 
 /// What is printed for a tile one cell high whose first cell is its outlet.
 fn printed_row(heights: &[i32]) -> String {

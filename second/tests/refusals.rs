@@ -3,7 +3,32 @@
 use second::ground::{Cell, Ground, Size};
 use second::network::network_of_lists;
 use second::refusal::Refusal;
-use second::{call, network_record, record};
+use second::{call, network_by_call, network_record, record};
+
+/// Counts of neighbours that can't be asked for: small ones, and large ones of which some part is a
+/// count that can.
+const WRONG_COUNTS: [u32; 20] = [
+    0,
+    1,
+    2,
+    3,
+    5,
+    6,
+    7,
+    9,
+    12,
+    16,
+    256 + 8,
+    65_536,
+    65_540,
+    65_544,
+    131_076,
+    4 << 16,
+    (1 << 31) + 4,
+    u32::MAX - 7,
+    u32::MAX - 3,
+    u32::MAX,
+];
 
 /// A level tile with one outlet at its first cell.
 fn level_ground(width: usize, height: usize) -> Ground {
@@ -18,14 +43,29 @@ fn level_ground(width: usize, height: usize) -> Ground {
     }
 }
 
-/// The call's answer with room to spare. Says too that a refusal leaves the room untouched.
+/// The calls' answer with room to spare.
 fn answer(bytes: &[u8]) -> u32 {
     answer_with_room(bytes, 61_468)
 }
 
+/// The answer of document 01's call, which is that of W-203's with 4 and with 8 neighbours.
+/// Says too that any other count is refused with 11, whatever else is wrong.
 fn answer_with_room(bytes: &[u8], length: usize) -> u32 {
+    let answer = answer_of(length, |room| call(bytes, room));
+    let with_count = |count| answer_of(length, |room| network_by_call(count, bytes, room));
+    for count in [4, 8] {
+        assert_eq!(with_count(count), answer, "count {count}");
+    }
+    for count in WRONG_COUNTS {
+        assert_eq!(with_count(count), refused(11, 0), "count {count}");
+    }
+    answer
+}
+
+/// A call's answer. Says too that a refusal leaves the room untouched.
+fn answer_of(length: usize, call: impl Fn(&mut [u8]) -> u32) -> u32 {
     let mut room = vec![0xA5; length];
-    let answer = call(bytes, &mut room);
+    let answer = call(&mut room);
     if answer >= 65_536 {
         assert!(room.iter().all(|&byte| byte == 0xA5));
     }
@@ -34,6 +74,19 @@ fn answer_with_room(bytes: &[u8], length: usize) -> u32 {
 
 fn refused(number: u32, place: u32) -> u32 {
     number * 65_536 + place
+}
+
+#[test]
+fn only_4_and_8_neighbours_can_be_asked_for() {
+    let whole = record::bytes(&level_ground(2, 1));
+    for count in 0..=9 {
+        let wanted = match count {
+            4 | 8 => 58,
+            _ => refused(11, 0),
+        };
+        let found = answer_of(58, |room| network_by_call(count, &whole, room));
+        assert_eq!(found, wanted, "count {count}");
+    }
 }
 
 #[test]

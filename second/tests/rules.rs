@@ -1,11 +1,12 @@
-//! The rules read once more, as slowly as they are written, on small tiles full of ties.
-//! Where the second program takes a quicker way, it has to come to the same.
+//! The rules read once more, as slowly as they are written, on small tiles full of ties, with 4 and with
+//! 8 neighbours. Where the second program takes a quicker way, it has to come to the same.
 
 use second::basins::{basins, Basins};
 use second::carving::{outflows, Outflow};
 use second::first_receivers::first_receivers;
 use second::ground::{Basin, Cell, Ground, Size};
-use second::network::{network, Network};
+use second::neighbours::Neighbours;
+use second::network::{network, network_by, Network};
 use second::passes::{chosen_passes, crossings, passes, Crossing};
 
 /// Small tiles with few heights and a few outlets, always the same ones.
@@ -36,10 +37,16 @@ fn small_tiles() -> Vec<Ground> {
     tiles
 }
 
+/// Each of these tiles with 4 neighbours, then with 8.
+fn asked() -> impl Iterator<Item = (Neighbours, Ground)> {
+    let with_both = |ground: Ground| Neighbours::BOTH.map(|asked| (asked, ground.clone()));
+    small_tiles().into_iter().flat_map(with_both)
+}
+
 /// Basins, passes and chosen passes of a tile.
-fn stages(ground: &Ground) -> (Basins, Vec<Crossing>, Vec<Crossing>) {
-    let basins = basins(&first_receivers(ground));
-    let passes = passes(&crossings(ground, &basins), &basins);
+fn stages(neighbours: Neighbours, ground: &Ground) -> (Basins, Vec<Crossing>, Vec<Crossing>) {
+    let basins = basins(&first_receivers(neighbours, ground));
+    let passes = passes(&crossings(neighbours, ground, &basins), &basins);
     let chosen = chosen_passes(&passes, &basins, ground);
     (basins, passes, chosen)
 }
@@ -73,11 +80,93 @@ fn reached(from: Basin, along: &[Crossing], ground: &Ground, basins: &Basins) ->
     }
 }
 
+/// How far apart two cells are in rows and in columns.
+fn apart(one: Cell, other: Cell, size: Size) -> (usize, usize) {
+    let (row, column) = size.row_and_column(one);
+    let (other_row, other_column) = size.row_and_column(other);
+    (row.abs_diff(other_row), column.abs_diff(other_column))
+}
+
+/// Neighbours share a side; of 8, some share a corner only.
+fn are_neighbours(neighbours: Neighbours, one: Cell, other: Cell, size: Size) -> bool {
+    match apart(one, other, size) {
+        (0, 1) | (1, 0) => true,
+        (1, 1) => neighbours == Neighbours::Eight,
+        _ => false,
+    }
+}
+
+#[test]
+fn neighbours_share_a_side_or_a_corner() {
+    for (neighbours, ground) in asked() {
+        for cell in ground.cells() {
+            let wanted: Vec<Cell> = ground
+                .cells()
+                .filter(|&other| are_neighbours(neighbours, cell, other, ground.size))
+                .collect();
+            let found: Vec<Cell> = neighbours.of(cell, ground.size).collect();
+            assert_eq!(found, wanted, "cell {} of {:?}", cell.0, ground.size);
+        }
+    }
+}
+
+/// Whether it is steeper from a cell to one neighbour than to another, case by case.
+fn is_steeper(ground: &Ground, cell: Cell, one: Cell, other: Cell) -> bool {
+    let drop = |to: Cell| i128::from(ground.height(cell)) - i128::from(ground.height(to));
+    let is_diagonal = |to: Cell| apart(cell, to, ground.size) == (1, 1);
+    match (is_diagonal(one), is_diagonal(other)) {
+        (true, false) => drop(one) * drop(one) > 2 * drop(other) * drop(other),
+        (false, true) => 2 * drop(one) * drop(one) > drop(other) * drop(other),
+        _ => drop(one) > drop(other),
+    }
+}
+
+#[test]
+fn no_lower_neighbour_is_steeper_than_the_first_receiver() {
+    for (neighbours, ground) in asked() {
+        let found = first_receivers(neighbours, &ground);
+        for (cell, &receiver) in ground.cells().zip(&found) {
+            let is_lower = |other: &Cell| ground.height(*other) < ground.height(cell);
+            let lower: Vec<Cell> = neighbours
+                .of(cell, ground.size)
+                .filter(|other| is_lower(other) && !ground.is_outlet(cell))
+                .collect();
+            let is_steepest = |one: &&Cell| {
+                let steeper = |&other: &Cell| is_steeper(&ground, cell, other, **one);
+                !lower.iter().any(steeper)
+            };
+            assert_eq!(receiver.as_ref(), lower.iter().find(is_steepest));
+        }
+    }
+}
+
+#[test]
+fn crossings_are_all_neighbours_in_different_basins() {
+    for (neighbours, ground) in asked() {
+        let basins = basins(&first_receivers(neighbours, &ground));
+        let mut wanted = Vec::new();
+        for lesser in ground.cells() {
+            for greater in ground.cells().filter(|&greater| lesser < greater) {
+                let touch = are_neighbours(neighbours, lesser, greater, ground.size);
+                if touch && basins.of(lesser) != basins.of(greater) {
+                    let height = ground.height(lesser).max(ground.height(greater));
+                    wanted.push(Crossing {
+                        height,
+                        lesser,
+                        greater,
+                    });
+                }
+            }
+        }
+        assert_eq!(crossings(neighbours, &ground, &basins), wanted);
+    }
+}
+
 #[test]
 fn a_pass_is_the_least_crossing_of_its_two_basins() {
-    for ground in small_tiles() {
-        let (basins, passes, _) = stages(&ground);
-        for crossing in crossings(&ground, &basins) {
+    for (neighbours, ground) in asked() {
+        let (basins, passes, _) = stages(neighbours, &ground);
+        for crossing in crossings(neighbours, &ground, &basins) {
             let pair = second::passes::pair(crossing, &basins);
             let of_pair = |pass: &&Crossing| second::passes::pair(**pass, &basins) == pair;
             let found: Vec<&Crossing> = passes.iter().filter(of_pair).collect();
@@ -89,8 +178,8 @@ fn a_pass_is_the_least_crossing_of_its_two_basins() {
 
 #[test]
 fn a_pass_is_chosen_exactly_when_no_chain_of_lesser_ones_joins_its_basins() {
-    for ground in small_tiles() {
-        let (basins, passes, chosen) = stages(&ground);
+    for (neighbours, ground) in asked() {
+        let (basins, passes, chosen) = stages(neighbours, &ground);
         for (at, pass) in passes.iter().enumerate() {
             let lesser = &passes[..at];
             let joined = reached(basins.of(pass.lesser), lesser, &ground, &basins)
@@ -102,8 +191,8 @@ fn a_pass_is_chosen_exactly_when_no_chain_of_lesser_ones_joins_its_basins() {
 
 #[test]
 fn there_are_as_many_chosen_passes_as_inner_basins() {
-    for ground in small_tiles() {
-        let (basins, _, chosen) = stages(&ground);
+    for (neighbours, ground) in asked() {
+        let (basins, _, chosen) = stages(neighbours, &ground);
         let inner = basins
             .all()
             .filter(|&basin| !is_outlet_basin(&ground, &basins, basin));
@@ -114,8 +203,8 @@ fn there_are_as_many_chosen_passes_as_inner_basins() {
 /// Without its outflow a basin has no way left to an outlet basin, so it is on the only one.
 #[test]
 fn an_outflow_is_the_first_pass_on_the_only_way_out() {
-    for ground in small_tiles() {
-        let (basins, _, chosen) = stages(&ground);
+    for (neighbours, ground) in asked() {
+        let (basins, _, chosen) = stages(neighbours, &ground);
         for (number, outflow) in outflows(&chosen, &basins, &ground).iter().enumerate() {
             let basin = Basin::at(number);
             let Some(Outflow { near, far }) = *outflow else {
@@ -147,8 +236,8 @@ fn above(cell: Cell, network: &Network) -> Vec<Cell> {
 
 #[test]
 fn the_order_is_that_of_rule_8() {
-    for ground in small_tiles() {
-        let network = network(&ground);
+    for (neighbours, ground) in asked() {
+        let network = network_by(neighbours, &ground);
         let outlets = ground.cells().filter(|&cell| ground.is_outlet(cell));
         let wanted: Vec<Cell> = outlets.flat_map(|outlet| above(outlet, &network)).collect();
         assert_eq!(network.order, wanted);
@@ -157,8 +246,8 @@ fn the_order_is_that_of_rule_8() {
 
 #[test]
 fn a_level_is_the_greatest_height_on_the_way() {
-    for ground in small_tiles() {
-        let network = network(&ground);
+    for (neighbours, ground) in asked() {
+        let network = network_by(neighbours, &ground);
         for start in ground.cells() {
             let (mut cell, mut greatest) = (start, ground.height(start));
             while !ground.is_outlet(cell) {
@@ -170,10 +259,24 @@ fn a_level_is_the_greatest_height_on_the_way() {
     }
 }
 
+/// Whoever may go over corners too has all the ways that there are without them.
+#[test]
+fn no_level_with_8_neighbours_is_above_that_with_4() {
+    let mut lower = 0;
+    for ground in small_tiles() {
+        let [four, eight] = Neighbours::BOTH.map(|asked| network_by(asked, &ground).levels);
+        for (with_4, with_8) in four.iter().zip(&eight) {
+            assert!(with_8 <= with_4);
+            lower += u32::from(with_8 < with_4);
+        }
+    }
+    assert!(lower > 500, "{lower}");
+}
+
 #[test]
 fn drainage_is_the_water_of_all_that_lies_above() {
-    for ground in small_tiles() {
-        let network = network(&ground);
+    for (neighbours, ground) in asked() {
+        let network = network_by(neighbours, &ground);
         for cell in ground.cells() {
             let water = |above: &Cell| u32::from(ground.water[above.index()]);
             let wanted: u32 = above(cell, &network).iter().map(water).sum();
@@ -183,11 +286,11 @@ fn drainage_is_the_water_of_all_that_lies_above() {
 }
 
 /// The cells that are no higher than a cell and joined to it through such cells.
-fn no_higher(start: Cell, ground: &Ground) -> Vec<Cell> {
+fn no_higher(neighbours: Neighbours, start: Cell, ground: &Ground) -> Vec<Cell> {
     let mut found = vec![start];
     let mut next = 0;
     while next < found.len() {
-        for cell in ground.size.neighbours(found[next]) {
+        for cell in neighbours.of(found[next], ground.size) {
             if ground.height(cell) <= ground.height(start) && !found.contains(&cell) {
                 found.push(cell);
             }
@@ -199,10 +302,10 @@ fn no_higher(start: Cell, ground: &Ground) -> Vec<Cell> {
 
 #[test]
 fn wet_is_where_every_way_out_climbs() {
-    for ground in small_tiles() {
-        let network = network(&ground);
+    for (neighbours, ground) in asked() {
+        let network = network_by(neighbours, &ground);
         for cell in ground.cells() {
-            let dry = no_higher(cell, &ground)
+            let dry = no_higher(neighbours, cell, &ground)
                 .iter()
                 .any(|&other| ground.is_outlet(other));
             assert_eq!(network.wet[cell.index()], u8::from(!dry));
@@ -212,11 +315,11 @@ fn wet_is_where_every_way_out_climbs() {
 
 #[test]
 fn wet_neighbours_have_one_level() {
-    for ground in small_tiles() {
-        let network = network(&ground);
+    for (neighbours, ground) in asked() {
+        let network = network_by(neighbours, &ground);
         let wet = |cell: &Cell| network.wet[cell.index()] == 1;
         for cell in ground.cells().filter(wet) {
-            for neighbour in ground.size.neighbours(cell).filter(wet) {
+            for neighbour in neighbours.of(cell, ground.size).filter(wet) {
                 assert_eq!(
                     network.levels[cell.index()],
                     network.levels[neighbour.index()]

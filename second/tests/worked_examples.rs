@@ -1,15 +1,33 @@
 //! The worked examples in `tests/vectors`, each run by the second program.
 
-use second::lakes_call;
 use second::vectors::{read_all, Vector};
+use second::{lakes_call, network_by_call};
+
+/// A call, with what it takes of a line.
+type Call = fn(&Vector, &mut [u8]) -> u32;
+
+const LAKES: Call = |example, room| lakes_call(&example.input, room);
+const NETWORK_BY: Call = |example, room| network_by_call(example.neighbours, &example.input, room);
+
+/// Runs so many examples of a call.
+fn all_hold(text: &str, lines: usize, call: Call) {
+    let all = read_all(text);
+    assert_eq!(all.len(), lines);
+    for (line, example) in all.iter().enumerate() {
+        assert!(example.holds(call), "line {}", line + 1);
+    }
+}
 
 #[test]
 fn every_example_of_lakes_holds() {
-    let all = read_all(include_str!("../../tests/vectors/lakes.txt"));
-    assert_eq!(all.len(), 240);
-    for (line, example) in all.iter().enumerate() {
-        assert!(example.holds(lakes_call), "line {}", line + 1);
-    }
+    all_hold(include_str!("../../tests/vectors/lakes.txt"), 240, LAKES);
+}
+
+#[test]
+fn every_example_of_networks_by_count_holds() {
+    let text = include_str!("../../tests/vectors/network_by.txt");
+    all_hold(text, 117, NETWORK_BY);
+    assert!(read_all(text).iter().all(|example| example.manner == 1));
 }
 
 /// Sample F: one lake of one cell, level 4, seven deep.
@@ -27,7 +45,7 @@ fn a_line_is_read_word_by_word() {
     assert_eq!((line.height, line.room, line.answer), (-5, 17, 1));
     assert_eq!((line.input.len(), line.season.len()), (30, 0));
     assert_eq!(line.output[..6], [4, 0, 0, 0, 1, 0]);
-    assert!(line.holds(lakes_call));
+    assert!(line.holds(LAKES));
 }
 
 /// Another answer, another byte written, and a byte touched that should have stayed.
@@ -35,12 +53,12 @@ fn a_line_is_read_word_by_word() {
 fn a_line_that_is_not_so_does_not_hold() {
     let mut other_answer = sample_f();
     other_answer.answer = 2;
-    assert!(!other_answer.holds(lakes_call));
+    assert!(!other_answer.holds(LAKES));
     let mut other_byte = sample_f();
     other_byte.output[8] = 8;
-    assert!(!other_byte.holds(lakes_call));
-    assert!(!sample_f().holds(|ground, room| {
+    assert!(!other_byte.holds(LAKES));
+    assert!(!sample_f().holds(|example, room| {
         room[16] = 0;
-        lakes_call(ground, room)
+        LAKES(example, room)
     }));
 }

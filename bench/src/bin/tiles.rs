@@ -4,7 +4,7 @@
 use std::io::{self, BufWriter, Write};
 
 use bench::tiles::{tile, Tile};
-use bench::{adversarial, slow_lakes, tiles};
+use bench::{adversarial, slow_diagonals, slow_lakes, tiles};
 
 /// So many tiles of the mix: six of the rarest families each.
 const OF_THE_MIX: u64 = 60;
@@ -20,7 +20,11 @@ fn main() -> io::Result<()> {
             &tile,
         )?;
     }
-    for families in [&adversarial::FAMILIES[..], &slow_lakes::FAMILIES] {
+    for families in [
+        &adversarial::FAMILIES[..],
+        &slow_lakes::FAMILIES,
+        &slow_diagonals::FAMILIES,
+    ] {
         for (number, tile) in adversarial::tiles_of(families).iter().enumerate() {
             let of_family = number % adversarial::TILES_OF_EACH;
             write(&mut out, families[tile.family].name, of_family, tile)?;

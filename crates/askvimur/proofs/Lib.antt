@@ -1,7 +1,1 @@
-pub mod Writing
-pub mod Answers
-pub mod Told
-pub mod AcceptedCalls
-pub mod LeftDemand3
-pub mod LeftWet
 pub mod OneOutcome

@@ -1,45 +1,15 @@
--- Document 01, "Numbers given back": what the record call gives back and leaves.
+-- Document 01, "Numbers given back": what the console's call gives back and leaves. It is the record call with 4 neighbours.
 -- Assumes nothing.
-use mathlib.Core.Bool.{Bool}
 use mathlib.Core.List.{List}
-use Prim.Native.Nat.{ℕ, _*_, _+_}
-use lib.ListN.{length}
-use Rattle.ground.specs.Judge.{judgeRecord, leaves, refusalNumber, refusalPlace}
-use Rattle.ground.specs.Record.{groundOfRecord}
-use Rattle.ground.specs.Rooms.{roomFor}
-use Rattle.lists.specs.Allowed.{Allowed}
-use Rattle.network_bytes.specs.NetworkRecord.{networkBytes, networkRecord}
-use Rattle.rules.specs.Ground.{Ground}
-use Rattle.rules.specs.Network.{network}
+use Prim.Native.Nat.{ℕ}
+use Rattle.network_record.specs.RecordCall.{CalledBy, CalledFromCBy}
+use Rattle.grid.specs.declared.Neighbours.the-variants.{Four}
 use Rattle.ground.specs.declared.Judged.{Judged}
-use Rattle.ground.specs.declared.Judged.the-variants.{Accepted, Refused}
 
--- the network record of a ground
-unfoldable pub networkRecordOf : Ground → List ℕ
-networkRecordOf g = networkRecord (g .width) (g .height) (network g)
+-- the record call: the judgement, and the lent record as it leaves it
+abbrev pub Called : (ground before : List ℕ) (r : Judged) (after : List ℕ) → Type 0
+Called = CalledBy Four
 
--- 3: a lent record of fewer than 15N + 28 bytes is too short
-abbrev pub roomOf : List ℕ → ℕ → Bool
-roomOf out = roomFor 15 28 (length out)
-
--- the answer: the length of the record, or the refusal's number times 65,536 plus its place
-abbrev pub answerTo : Judged → ℕ
-answerTo (Accepted w h) = networkBytes (h * w)
-answerTo (Refused why) = refusalNumber why * 65536 + refusalPlace why
-
-module _ (ground before : List ℕ) where
-  -- the record's judgement, with the lent record as room
-  abbrev pub judgement : Judged
-  judgement = judgeRecord (roomOf before) ground
-
-  -- the lent record after an answer: the network record of the ground at its start where accepted, and as it was where refused
-  abbrev pub leftRecord : Judged → List ℕ
-  leftRecord r = leaves r (networkRecordOf (groundOfRecord ground)) before
-
-  -- the record call: the judgement, and the lent record as it leaves it
-  abbrev pub Called : (r : Judged) (after : List ℕ) → Type 0
-  Called = Allowed judgement leftRecord
-
-  -- the same for C: the judgement as one number
-  abbrev pub CalledFromC : (r : ℕ) (after : List ℕ) → Type 0
-  CalledFromC = Allowed (answerTo judgement) (λ _. leftRecord judgement)
+-- the same for C: the judgement as one number
+abbrev pub CalledFromC : (ground before : List ℕ) (r : ℕ) (after : List ℕ) → Type 0
+CalledFromC = CalledFromCBy Four

@@ -1,4 +1,5 @@
-// The calls of the service and of designers' tools, for C (include/askvimur_service.h): the lakes of a ground record (W-202).
+// The calls of the service and of designers' tools, for C (include/askvimur_service.h): the lakes of a ground record (W-202), and its network
+// over 4 or 8 neighbours (W-203).
 ghost use mathlib.Core.List.{List};
 ghost use mathlib.Core.Path.{_≡_};
 ghost use Prim.Native.Nat.{ℕ, _*_, _+_};
@@ -11,6 +12,7 @@ ghost use Rattle.lake_rules.specs.Lakes.{Lake};
 ghost use Rattle.lake_stages.specs.LakesOn.{lakesOn, tooDeepOn};
 ghost use Rattle.lake_stages.specs.ReadFound.{ReadFound};
 ghost use Rattle.lists.specs.Allowed.{Allowed};
+ghost use Rattle.network_by.specs.Calls.{RecordCountedFromC};
 ghost use Rattle.record_stages.specs.Readable.{Readable};
 use ground::Judged;
 use lake_bytes::write_lakes;
@@ -20,6 +22,7 @@ use lake_calls::lakes_number;
 use lake_calls::lakes_place;
 use lake_list::Found;
 use lake_stages::record_lakes;
+use network_by::network_of_record;
 
 // The answer to what was found; the lakes' bytes are written where that lists them.
 fn write_found(found: Found, rows: &[u64], lakes: &mut [u8]) -> LakesAnswer
@@ -91,4 +94,14 @@ pub extern "C" fn askvimur_lakes(ground: &[u8], lakes: &mut [u8]) -> u32
     ensures { λ r. ⌜ LakesCalledFromC (now (ground .entry)) (now (lakes .entry)) r (now (lakes .exit)) ⌝ }
 {
     answer_for_c(lakes_of_record(ground, lakes))
+}
+
+// The network record of a ground record over the neighbours asked for, at the start of a lent room. The answer is the length written, 43 to
+// 61,468, or for a refusal its number times 65,536 plus its place; 11, a count other than 4 or 8, comes before all others. A refusal alters
+// nothing, and bytes past the record stay.
+#[no_mangle]
+pub extern "C" fn askvimur_network_by(neighbours: u32, ground: &[u8], network: &mut [u8]) -> u32
+    ensures { λ r. ⌜ RecordCountedFromC neighbours (now (ground .entry)) (now (network .entry)) r (now (network .exit)) ⌝ }
+{
+    network_by::answer_for_c(network_of_record(neighbours, ground, network))
 }

@@ -4,12 +4,14 @@ ghost use mathlib.Core.Path.{_≡_};
 ghost use Prim.Native.Nat.{_*_, _≤_};
 ghost use lib.ListN.{length, take};
 ghost use Rattle.drain.specs.Drain.{drainText};
+ghost use Rattle.grid.specs.declared.Neighbours.the-variants.{Four};
 ghost use Rattle.ground.specs.Record.{groundIn};
 ghost use Rattle.record_stages.specs.LinkedRecord.{LinkedRecord};
 ghost use Rattle.record_stages.specs.Readable.{Readable};
 ghost use Rattle.rules.specs.Network.{liftedNetworkOf};
 ghost use Rattle.text.specs.Text.{groundText};
 ghost use Rattle.text.specs.Writing.{mostText, Printed};
+use grid::Neighbours;
 use ground::Judged;
 use record_stages::link_record;
 use record_stages::walk_record;
@@ -61,7 +63,7 @@ fn print_linked(
     text: &mut [u8],
 ) -> usize
     requires { ⌜ Readable (now bytes) width height ⌝ }
-    requires { ⌜ LinkedRecord (now bytes) width height (now lifted) (now links) × (mostText ≤ length (now text)) ⌝ }
+    requires { ⌜ LinkedRecord Four (now bytes) width height (now lifted) (now links) × (mostText ≤ length (now text)) ⌝ }
     ensures { λ r. ⌜ Printed (groundText (groundIn (now (bytes .entry)) width height)) (now (text .entry)) (now (text .exit)) r ⌝ }
 {
     let mut receivers = [0u16; 4096];
@@ -70,6 +72,7 @@ fn print_linked(
     let mut drainage = [0u32; 4096];
     let mut wet = [0u8; 4096];
     walk_record(
+        Neighbours::Four,
         bytes,
         width,
         height,
@@ -92,8 +95,16 @@ fn print_tile(bytes: &[u8], width: u16, height: u16, text: &mut [u8]) -> usize
 {
     let mut lifted = [0u32; 4096];
     let mut basins = [0u16; 4096];
-    let mut links = [0u8; 4224];
-    link_record(bytes, width, height, &mut lifted, &mut basins, &mut links);
+    let mut links = [0u8; 4226];
+    link_record(
+        Neighbours::Four,
+        bytes,
+        width,
+        height,
+        &mut lifted,
+        &mut basins,
+        &mut links,
+    );
     print_linked(bytes, width, height, &lifted, &links, text)
 }
 

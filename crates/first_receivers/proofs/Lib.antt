@@ -1,4 +1,7 @@
-pub mod Tried
+pub mod Taken
+pub mod Winners
 pub mod Keys
+pub mod Weighing
+pub mod Selects
 pub mod Rows
 pub mod OneOutcome

@@ -2,18 +2,19 @@
 -- Assumes nothing.
 use mathlib.Core.List.{List}
 use mathlib.Core.Path.{ap, refl, sym, _∙_, _≡_}
-use Prim.Native.Nat.{ℕ, _%_, _+_, _<_, _≤_}
+use Prim.Native.Nat.{ℕ, _%_, _+_, _-_, _<_, _≤_}
 use native.Mathlib.Nat.{mod-eq-of-lt}
 use native.Mathlib.Omega.{arith}
 use lib.Dec.{leb, ltb}
 use lib.ListN.{length}
 use borrow.Author.Tests.{le-leb, le-ltb, leb-false, leb-true, lt-leb, lt-ltb, ltb-false, ltb-true}
-use Rattle.first_receivers.specs.Weights.{Row, weight, weightBy}
+use Rattle.first_receivers.specs.Weights.{Crossed, Row, weight, weightBy}
 use Rattle.grid.proofs.Rows.{row-after, row-column, row-fits}
 use Rattle.grid.proofs.Sides.{above-is, below-is, left-is, right-is}
 use Rattle.grid.specs.Sides.{above, below, leftward, rightward}
 use Rattle.grid.specs.Window.{Rows}
 use Rattle.lists.proofs.Tests.{is, isnt, known, Known}
+use Rattle.grid.specs.declared.Neighbours.{Neighbours}
 
 -- the row that starts at b
 pub row-of : (w n b : ℕ) → n % w ≡ 0 → b % w ≡ 0 → b < n → Row w n b (above w b) (below w n b)
@@ -57,10 +58,10 @@ module _ (w n b up down : ℕ) (whole : n % w ≡ 0) (R : Row w n b up down) (x 
       go (isnt t) = let q : n ≤ b + w = ltb-false _ _ t in rw (t, le-ltb (b + x + w) n (omega arith))
 
 -- what is stored for the cell in column x
-pub weight-at : (w b up down : ℕ) (heights marks : List ℕ) → Rows w (length heights) → Row w (length heights) b up down
+pub weight-at : (N : Neighbours) (w b up down : ℕ) (heights marks : List ℕ) → Rows w (length heights) → Row w (length heights) b up down
     → (x : ℕ) → x < w → (c u l r d : ℕ) → c ≡ b + x → u ≡ up + x → d ≡ down + x → l ≡ leftward x (b + x) → r ≡ rightward w x (b + x)
-    → weightBy heights marks c u l r d ≡ weight w heights marks (b + x)
-weight-at w b up down heights marks G R x h c u l r d ec eu ed el er =
+    → weightBy N heights marks c u l r d ≡ weight N w heights marks (b + x)
+weight-at N w b up down heights marks G R x h c u l r d ec eu ed el er =
     let fits = R .fits in
     let on : b + x < length heights = omega arith in
     rw (
@@ -78,10 +79,50 @@ weight-at w b up down heights marks G R x h c u l r d ec eu ed el er =
       row-column w b x (R .start) h,
     )
 
--- the cell to the right of a row's first is on the tile
-pub second-in : (w b n : ℕ) → b + w ≤ n → 0 < w → rightward w 0 b < n
-second-in w b n h k = go (known (ltb (0 + 1) w))
-  where
-    go : Known (ltb (0 + 1) w) → rightward w 0 b < n
-    go (is t) = let q : 0 + 1 < w = ltb-true _ _ t in rw t (omega arith)
-    go (isnt t) = rw t (omega arith)
+-- the cells around that one, in the first column, in a middle one and in the last
+module _ {w n b up down : ℕ} (R : Row w n b up down) where
+  pub first-crossed : {r : ℕ} → 0 < w → r ≡ rightward w 0 b → Crossed n b up b r down
+  first-crossed {r} wide e = go (known (ltb (0 + 1) w))
+    where
+      go : Known (ltb (0 + 1) w) → Crossed n b up b r down
+      go (is t) =
+          let q : 0 + 1 < w = ltb-true _ _ t in
+          let f : r ≡ b + 1 = e ∙ rw t in
+          let a = R .fits in let l = R .up-low in let d = R .down-fits in
+          record {
+            on = omega arith;
+            left = omega arith;
+            right = omega arith;
+            right-on = omega arith;
+            up-west = omega arith;
+            up-east = omega arith;
+            down-west = omega arith;
+            down-east = omega arith;
+          }
+      go (isnt t) =
+          let f : r ≡ b = e ∙ rw t in
+          let a = R .fits in let l = R .up-low in let d = R .down-fits in
+          record {
+            on = omega arith;
+            left = omega arith;
+            right = omega arith;
+            right-on = omega arith;
+            up-west = omega arith;
+            up-east = omega arith;
+            down-west = omega arith;
+            down-east = omega arith;
+          }
+
+  pub inner-crossed : (x r : ℕ) → 0 < x → x < w → r < b + w → b + x ≤ r → r ≤ b + x + 1 → Crossed n (b + x) (up + x) (b + x - 1) r (down + x)
+  inner-crossed x r h k l m o =
+      let a = R .fits in let p = R .up-low in let d = R .down-fits in
+      record {
+        on = omega arith;
+        left = omega arith;
+        right = omega arith;
+        right-on = omega arith;
+        up-west = omega arith;
+        up-east = omega arith;
+        down-west = omega arith;
+        down-east = omega arith;
+      }

@@ -9,7 +9,7 @@ use Prim.Native.Nat.{ℕ, _%_, _*_, _+_, _<_, _≤_}
 use native.Mathlib.Nat.{mod-lt}
 use native.Mathlib.Omega.{arith}
 use lib.ListN.{length, length-append}
-use Rattle.grid.proofs.Neighbours.{joinedAt, joined-places, neighbours-places, one}
+use Rattle.grid.proofs.AtPlaces.{joinedAt, joined-places, neighbours-places, one}
 use Rattle.grid.proofs.Rules.{sides-rule}
 use Rattle.grid.proofs.Sides.{above-stands, below-stands, left-stands, right-stands, stands-above, stands-below, stands-left, stands-right}
 use Rattle.grid.proofs.Window.{on-stands, stands-on}

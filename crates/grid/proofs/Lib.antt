@@ -1,8 +1,10 @@
 pub mod Rows
 pub mod Window
-pub mod Neighbours
+pub mod AtPlaces
 pub mod Masks
 pub mod Sides
 pub mod Rules
 pub mod OneOutcome
 pub mod Counts
+pub mod Steepness
+pub mod Corners

@@ -1,7 +1,7 @@
--- Masks of a relation: relations that agree have the same mask, one neighbour more adds its place's bit, and the mask of where a cell leads to
--- is the bit of one place, or 0.
+-- Masks of a relation: relations that agree have the same mask, one neighbour more adds its place's bit, the masks of relations that share no
+-- neighbour add up, and the mask of where a cell leads to is the bit of one place, or 0.
 -- Assumes nothing.
-use mathlib.Core.Bool.{Bool, cond, false, false≢true, true, _&&_}
+use mathlib.Core.Bool.{Bool, cond, false, false≢true, true, _&&_, _||_}
 use mathlib.Core.List.{[], List, List·Memᴰ·cases-cons as in-cases, List·Memᴰ·head as in-head, List·Memᴰ·not-nil as in-none}
 use mathlib.Core.List.{List·Memᴰ·tail as in-tail, map, _∷_}
 use mathlib.Core.Logic.{inl, inr, _⊎_}
@@ -58,9 +58,32 @@ bit-one (x ∷ xs) {p} {q} m k e = go (eq-or-ne p x) (eq-or-ne q x) (λ a b. bit
         let u : 2 * bitOf xs p ≡ 2 * bitOf xs q = rw (ne-eqb p x y, ne-eqb q x z) at e in
         ih (lose y (in-cases m)) (lose z (in-cases k)) (omega arith)
 
+-- ascending places have ascending bits
+pub bit-ascends : {j : ℕ} (ps : List ℕ) → Sorted j ps → {p q : ℕ} → p ∈ ps → q ∈ ps → p < q → bitOf ps p < bitOf ps q
+bit-ascends [] s m k h = absurd (in-none m)
+bit-ascends (x ∷ xs) (sorted-next l s) {p} {q} m k h = go (in-cases m) (in-cases k) (λ i j. bit-ascends xs s i j h)
+  where
+    go : (p ≡ x) ⊎ (p ∈ xs) → (q ≡ x) ⊎ (q ∈ xs) → (p ∈ xs → q ∈ xs → bitOf xs p < bitOf xs q) → bitOf (x ∷ xs) p < bitOf (x ∷ xs) q
+    go (inl e) (inl f) ih = absurd (omega arith)
+    go (inl e) (inr j) ih =
+        let b = bit-some xs j in
+        rw (eq-eqb p x e, ne-eqb q x (λ f. let u = sorted-member s j in omega arith)) (omega arith)
+    go (inr i) (inl f) ih = let u = sorted-member s i in absurd (omega arith)
+    go (inr i) (inr j) ih =
+        let b = ih i j in
+        rw (ne-eqb p x (λ f. let u = sorted-member s i in omega arith), ne-eqb q x (λ f. let u = sorted-member s j in omega arith)) (omega arith)
+
 and-same : (t e f : Bool) → (t ≡ true → e ≡ f) → t && e ≡ t && f
 and-same true e f h = h refl
 and-same false e f h = refl
+
+-- two tests that are never both met
+either : (t a b : Bool) → (t ≡ true → a ≡ true → b ≡ true → ⊥)
+    → _≡_ {A = ℕ} (cond (t && a) 1 0 + cond (t && b) 1 0) (cond (t && (a || b)) 1 0)
+either false a b f = refl
+either true true true f = absurd (f refl refl refl)
+either true true false f = refl
+either true false b f = omega arith
 
 module _ {w n : ℕ} (G : Rows w n) {places : List ℕ} (R : IsRule places) (c : ℕ) where
   pub mask-small : (E : ℕ → ℕ → Bool) → maskOf places w n E c < 2 ^ length places
@@ -121,6 +144,23 @@ module _ {w n : ℕ} (G : Rows w n) {places : List ℕ} (R : IsRule places) (c :
       → maskOf places w n E c + bitOf places p ≡ maskOf places w n F c
   unfolding maskOf
   mask-more E F p x m S new old agree = more-bits E F x new old p S 0 places (R .ascending) (R .within) m agree
+
+  both-bits : (E F : ℕ → ℕ → Bool) (ps : List ℕ) → ((p : ℕ) → p ∈ ps → p < 9)
+      → ((p d : ℕ) → p ∈ ps → Stands w n c p d → E c d ≡ true → F c d ≡ true → ⊥)
+      → bits (map (joinsAt w n E c) ps) + bits (map (joinsAt w n F c) ps) ≡ bits (map (joinsAt w n (λ x y. E x y || F x y) c) ps)
+  both-bits E F [] b apart = refl
+  both-bits E F (p ∷ ps) b apart =
+      let here =
+      either (onTile w n c p) (E c (cellAt w c p)) (F c (cellAt w c p))
+      (λ t. apart p (cellAt w c p) (in-head refl) (on-stands w n c p (b p (in-head refl)) (G .wide) t)) in
+      let rest = both-bits E F ps (λ q m. b q (in-tail m)) (λ q d m. apart q d (in-tail m)) in
+      omega arith
+
+  -- two relations that never join c to the same neighbour: no bit is there twice
+  pub mask-both : (E F : ℕ → ℕ → Bool) → ((p d : ℕ) → p ∈ places → Stands w n c p d → E c d ≡ true → F c d ≡ true → ⊥)
+      → maskOf places w n E c + maskOf places w n F c ≡ maskOf places w n (λ x y. E x y || F x y) c
+  unfolding maskOf
+  mask-both E F apart = both-bits E F places (R .within) apart
 
   no-bits : (ps : List ℕ) → bits (map (joinsAt w n (λ x y. false) c) ps) ≡ 0
   no-bits [] = refl

@@ -1,22 +1,24 @@
--- Sides are a rule, and so are sides and corners: a computed test says what is asked of a rule's places.
+-- Sides are a rule, and so are sides and corners: a computed test says what is asked of a rule's places. Every rule's places are among these.
 -- Assumes nothing.
 use mathlib.Core.Bool.{Bool, false≢true, not, true, _&&_}
 use mathlib.Core.List.{[], List, List·Memᴰ·cases-cons as in-cases, List·Memᴰ·head as in-head, List·Memᴰ·not-nil as in-none}
 use mathlib.Core.List.{List·Memᴰ·tail as in-tail, _∷_}
 use mathlib.Core.Logic.{inl, inr, _⊎_}
 use mathlib.Core.Path.{refl, subst, sym, _≡_}
-use Prim.Native.Nat.{suc, ℕ, _%_, _+_, _-_, _/_, _<_, _≤_}
+use Prim.Native.Nat.{suc, zero, ℕ, _%_, _+_, _-_, _/_, _<_}
 use native.Mathlib.Omega.{arith}
 use lib.Dec.{eqb, leb, ltb}
-use lib.ListN.{length}
 use borrow.Author.Tests.{eq-eqb, eqb-true, leb-true, ltb-true}
 use Rattle.grid.proofs.Sides.{each-side}
 use Rattle.grid.proofs.Window.{beside-stands, stands-beside}
+use Rattle.grid.specs.Neighbours.{placesBy}
 use Rattle.grid.specs.Window.{around, beside, IsRule, oneApart, shareSide, sides, Stands}
-use Rattle.lists.proofs.Any.{any-member}
-use Rattle.lists.proofs.Tests.{and-both, and-left, and-right, lt-or-ge, or-cases, or-left, or-right, same-test}
+use Rattle.lists.proofs.Any.{any-in}
+use Rattle.lists.proofs.Tests.{and-both, and-left, and-right, or-cases, or-left, or-right, same-test}
 use Rattle.lists.specs.Ascending.{Sorted, sorted-next, sorted-none}
 use Rattle.lists.specs.Lists.{any, _∈_}
+use Rattle.grid.specs.declared.Neighbours.{Neighbours}
+use Rattle.grid.specs.declared.Neighbours.the-variants.{Eight, Four}
 
 abbrev ascends : ℕ → List ℕ → Bool
 ascends k [] = true
@@ -49,9 +51,7 @@ checked places s t =
       ascending = ascends-sorted 0 places s;
       within = λ p m. ltb-true p 9 (and-left (ltb p 9) _ (each p m));
       no-middle = λ m. false≢true (each 4 m);
-      opposite = λ p m.
-          let (q, i, e) = any-member (eqb (8 - p)) places (and-right (not (eqb p 4)) _ (and-right (ltb p 9) _ (each p m))) in
-          subst (λ (x : ℕ). x ∈ places) (sym (eqb-true _ _ e)) i;
+      opposite = λ p m. any-in (and-right (not (eqb p 4)) _ (and-right (ltb p 9) _ (each p m)));
     }
   where
     each : (p : ℕ) → p ∈ places → allowed places p ≡ true
@@ -63,23 +63,39 @@ sides-rule = checked sides refl refl
 pub around-rule : IsRule around
 around-rule = checked around refl refl
 
--- places from k on, ascending below 9 without the middle: at most 8 in all
-few-from : (k : ℕ) (ps : List ℕ) → Sorted k ps → ((p : ℕ) → p ∈ ps → p < 9) → (4 ∈ ps → ⊥) → k ≤ 9
-    → (length ps + k ≤ 9) × (k ≤ 4 → length ps + k ≤ 8)
-few-from k [] s b z h = (omega arith, λ l. omega arith)
-few-from k (p ∷ ps) (sorted-next g s) b z h =
-    let below : p < 9 = b p (in-head refl) in
-    let rest = few-from (suc p) ps s (λ q m. b q (in-tail m)) (λ m. z (in-tail m)) (omega arith) in
-    let most : length ps + suc p ≤ 9 = rest .0 in
-    (omega arith, λ l. go l most (rest .1) (lt-or-ge p 4))
-  where
-    go : k ≤ 4 → length ps + suc p ≤ 9 → (suc p ≤ 4 → length ps + suc p ≤ 8) → (p < 4) ⊎ (4 ≤ p) → suc (length ps) + k ≤ 8
-    go l most less (inl i) = let x : length ps + suc p ≤ 8 = less (omega arith) in omega arith
-    go l most less (inr i) = let x : p ≡ 4 → ⊥ = λ e. z (in-head (sym e)) in omega (arith, x)
+-- the neighbours that a caller may ask for
+pub rule-by : (N : Neighbours) → IsRule (placesBy N)
+rule-by Four = sides-rule
+rule-by Eight = around-rule
 
-pub places-few : (places : List ℕ) → IsRule places → length places ≤ 8
-places-few places R =
-    let f = few-from 0 places (R .ascending) (R .within) (R .no-middle) (omega arith) .1 (omega arith) in omega arith
+-- all places but the middle are around
+pub around-all : (p : ℕ) → p < 9 → (p ≡ 4 → ⊥) → p ∈ around
+around-all p h z = any-in (found p h z)
+  where
+    found : (p : ℕ) → p < 9 → (p ≡ 4 → ⊥) → any (eqb p) around ≡ true
+    found zero h z = refl
+    found (suc zero) h z = refl
+    found (suc (suc zero)) h z = refl
+    found (suc (suc (suc zero))) h z = refl
+    found (suc (suc (suc (suc zero)))) h z = absurd (z refl)
+    found (suc (suc (suc (suc (suc zero))))) h z = refl
+    found (suc (suc (suc (suc (suc (suc zero)))))) h z = refl
+    found (suc (suc (suc (suc (suc (suc (suc zero))))))) h z = refl
+    found (suc (suc (suc (suc (suc (suc (suc (suc zero)))))))) h z = refl
+    found (suc (suc (suc (suc (suc (suc (suc (suc (suc p))))))))) h z = absurd (omega arith)
+
+pub places-around : {places : List ℕ} → IsRule places → (p : ℕ) → p ∈ places → p ∈ around
+places-around {places} R p m = around-all p (R .within p m) (λ e. R .no-middle (subst (λ (q : ℕ). q ∈ places) e m))
+
+-- so neighbours by any rule are neighbours by this one, and those at the sides are neighbours whatever is asked for
+pub beside-around : {places : List ℕ} → IsRule places → (w a b : ℕ) → beside places w a b ≡ true → beside around w a b ≡ true
+beside-around {places} R w a b t =
+    let (p, i, S) = beside-stands places w (suc b) a b R (omega arith) t in
+    stands-beside S (places-around R p i)
+
+pub sides-asked : (N : Neighbours) (p : ℕ) → p ∈ sides → p ∈ placesBy N
+sides-asked Four p m = m
+sides-asked Eight p m = places-around sides-rule p m
 
 -- the sides are those of document 01's words
 pub sides-share : (w a b : ℕ) → beside sides w a b ≡ shareSide w a b

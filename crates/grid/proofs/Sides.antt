@@ -1,9 +1,7 @@
 -- The four sides of a cell by number: the cell above is w less, the one to the left 1 less, to the right 1 more, below w more.
 -- Assumes nothing.
 use mathlib.Core.Bool.{Bool, cond, false, true}
-use mathlib.Core.List.{[], List·Memᴰ·cases-cons as in-cases, List·Memᴰ·not-nil as in-none, _∷_}
-use mathlib.Core.Logic.{inl, inr, _⊎_}
-use mathlib.Core.Path.{ap, refl, subst, sym, _∙_, _≡_}
+use mathlib.Core.Path.{ap, refl, sym, _∙_, _≡_}
 use Prim.Native.Nat.{ℕ, _%_, _+_, _-_, _/_, _<_, _≤_}
 use native.Mathlib.Nat.{add-div-right, add-mod-right, mod-lt}
 use native.Mathlib.Omega.{arith}
@@ -13,6 +11,7 @@ use Rattle.grid.proofs.Rows.{left-column, next-column, next-row, right-
 use Rattle.grid.proofs.Window.{on-stands, stands-cell, stands-number, stands-on}
 use Rattle.grid.specs.Sides.{above, below, leftward, rightward}
 use Rattle.grid.specs.Window.{cellOr, onTile, Rows, sides, Stands}
+use Rattle.lists.proofs.Each.{each-member}
 use Rattle.lists.proofs.Tests.{same-test}
 use Rattle.lists.specs.Lists.{_∈_}
 
@@ -106,23 +105,4 @@ module _ {w n c : ℕ} (G : Rows w n) (on : c < n) where
 
 -- each of the four, one after the other
 pub each-side : (P : ℕ → Type 0) → P 1 → P 3 → P 5 → P 7 → (p : ℕ) → p ∈ sides → P p
-each-side P a b c d p m = go (in-cases m)
-  where
-    is : (q : ℕ) → P q → p ≡ q → P p
-    is q x e = subst P (sym e) x
-
-    last : (p ≡ 7) ⊎ (p ∈ []) → P p
-    last (inl e) = is 7 d e
-    last (inr i) = absurd (in-none i)
-
-    third : (p ≡ 5) ⊎ (p ∈ 7 ∷ []) → P p
-    third (inl e) = is 5 c e
-    third (inr i) = last (in-cases i)
-
-    second : (p ≡ 3) ⊎ (p ∈ 5 ∷ 7 ∷ []) → P p
-    second (inl e) = is 3 b e
-    second (inr i) = third (in-cases i)
-
-    go : (p ≡ 1) ⊎ (p ∈ 3 ∷ 5 ∷ 7 ∷ []) → P p
-    go (inl e) = is 1 a e
-    go (inr i) = second (in-cases i)
+each-side P a b c d = each-member P sides (a, (b, (c, (d, tt))))

@@ -160,3 +160,33 @@ stands-greater {w} {n} {c} {q} {d} h S = go (lt-or-ge 0 w)
         let a = ap (λ (x : ℕ). c / x) z ∙ div-zero c in let b = ap (λ (x : ℕ). d / x) z ∙ div-zero d in
         let f = ap (λ (x : ℕ). c % x) z ∙ mod-zero c in let g = ap (λ (x : ℕ). d % x) z ∙ mod-zero d in
         omega arith
+
+-- and what is greater stands at a later one
+pub stands-later : {w n c q d : ℕ} → c < d → Stands w n c q d → 4 < q
+stands-later {w} {n} {c} {q} {d} h S = go (lt-or-ge 4 q) (lt-or-ge q 4)
+  where
+    go : (4 < q) ⊎ (q ≤ 4) → (q < 4) ⊎ (4 ≤ q) → 4 < q
+    go (inl l) b = l
+    go (inr l) (inl b) = let o = S .on in let k = stands-greater (omega arith) (stands-back S (omega arith)) in absurd (omega arith)
+    go (inr l) (inr b) =
+        let r = S .row in let m = S .column in
+        let e : c ≡ d = same-cell w c d (omega arith) (omega arith) in
+        absurd (omega arith)
+
+-- by number, within a row: the other way round
+pub number-stands : {w n c p d : ℕ} → p < 9 → 0 < c / w + p / 3 → 0 < c % w + p % 3 → c % w + p % 3 ≤ w → d + (w + 1) ≡ c + p / 3 * w + p % 3 → d < n
+    → Stands w n c p d
+number-stands {w} {n} {c} {p} {d} k v l m e h =
+    let r : ℕ = c / w + p / 3 - 1 in
+    let q : ℕ = c % w + p % 3 - 1 in
+    let a : (r + 1) * w ≡ r * w + 1 * w = add-mul r 1 w in
+    let b : (c / w + p / 3) * w ≡ c / w * w + p / 3 * w = add-mul (c / w) (p / 3) w in
+    let f : r + 1 ≡ c / w + p / 3 = omega arith in
+    let g : (r + 1) * w ≡ (c / w + p / 3) * w = ap (λ (x : ℕ). x * w) f in
+    let i = div-add-mod' c w in
+    let j : r * w + q ≡ d = omega arith in
+    let o = row-of w r q (omega arith) in
+    let t = column-of w r q (omega arith) in
+    let x : d / w ≡ r = ap (λ (y : ℕ). y / w) (sym j) ∙ o in
+    let y : d % w ≡ q = ap (λ (y : ℕ). y % w) (sym j) ∙ t in
+    record { place = k; row = omega arith; column = omega arith; on = h }

@@ -16,6 +16,10 @@ use Rattle.lists.specs.Lists.{any, _∈_}
 abbrev pub sides : List ℕ
 sides = 1 ∷ 3 ∷ 5 ∷ 7 ∷ []
 
+-- the four corners: the even places but the middle
+abbrev pub corners : List ℕ
+corners = 0 ∷ 2 ∷ 6 ∷ 8 ∷ []
+
 -- sides and corners: all places but the middle
 abbrev pub around : List ℕ
 around = 0 ∷ 1 ∷ 2 ∷ 3 ∷ 5 ∷ 6 ∷ 7 ∷ 8 ∷ []

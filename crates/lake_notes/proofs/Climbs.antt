@@ -10,7 +10,7 @@ use native.Mathlib.Numerals.{add-one}
 use native.Mathlib.Nat.{eq-or-lt-of-le}
 use native.Mathlib.Omega.{arith}
 use lib.ListN.{length}
-use Rattle.grid.specs.Window.{Grid, sides}
+use Rattle.grid.specs.Window.{Grid}
 use Rattle.lake_notes.proofs.Ending.{notes-of}
 use Rattle.lake_notes.proofs.Steps.{so-far-next}
 use Rattle.lake_notes.proofs.WetPairs.{pairs-touch, touches-paired}
@@ -54,17 +54,17 @@ module _ {w : ℕ} {heights list : List ℕ} (C : Climbing w heights list) where
   n = length heights
 
   -- the next pair is on the tile
-  pub greater-on : (i : ℕ) → i < length list → greaterOf sides w (at list i) < length heights
+  pub greater-on : (i : ℕ) → i < length list → greaterOf w (at list i) < length heights
   greater-on i l = C .neighbours (at list i) (at-member list i l) .on
 
   -- one pair more
   pub so-far-climbs : (marks : List ℕ) {old new : Lists} (i : ℕ) → i < length list
       → SoFar (tileLand rule4 w heights marks) (metTouches w list i) old → Sized (length heights) old
-      → Met (at heights) (lesserOf sides (at list i)) (greaterOf sides w (at list i)) old new
+      → Met (at heights) (lesserOf (at list i)) (greaterOf w (at list i)) old new
       → SoFar (tileLand rule4 w heights marks) (metTouches w list (i + 1)) new
   so-far-climbs marks {old} {new} i l S size m =
       rw (add-one i)
-      (so-far-next L S (touchOf w (at list i)) (pair-lesser sides w n (at list i) (C .neighbours (at list i) (at-member list i l)))
+      (so-far-next L S (touchOf w (at list i)) (pair-lesser w n (at list i) (C .neighbours (at list i) (at-member list i l)))
       (greater-on i l) up size m)
     where
       L : Land

@@ -2,7 +2,7 @@
 -- left of the row is counted down, and no column is divided out.
 -- Assumes nothing.
 use mathlib.Core.Bool.{Bool, cond, false, true}
-use mathlib.Core.List.{List}
+use mathlib.Core.List.{append-nil, List}
 use mathlib.Core.Logic.{inl, inr, _⊎_}
 use mathlib.Core.Path.{ap, refl, subst, sym, _∙_, _≡_}
 use Prim.Native.Nat.{ℕ, _%_, _*_, _+_, _-_, _/_, _<_, _≤_}
@@ -13,8 +13,9 @@ use lib.ListN.{length, length-set, set}
 use borrow.Author.Tests.{eq-eqb, ne-eqb}
 use Rattle.grid.proofs.Rows.{next-column, row-after}
 use Rattle.lake_notes.specs.WetPairs.{wetPair, wetPairs, wetSide}
-use Rattle.lists.proofs.Packs.{packs-next, packs-none}
+use Rattle.lists.proofs.Packs.{keep-next, packs-next, packs-none}
 use Rattle.lists.proofs.Tests.{eq-or-ne}
+use Rattle.lists.specs.Lists.{keep, upto}
 use Rattle.lists.specs.Stores.{Packs}
 
 -- a test as a bit
@@ -25,6 +26,10 @@ bit-most false e = omega arith
 bit-told : (t : Bool) {b : ℕ} → b ≡ cond t 1 0 → t ≡ eqb b 1
 bit-told true e = rw e
 bit-told false e = rw e
+
+-- a number that fails the test is not written
+packs-past : (t : ℕ → Bool) {l : List ℕ} {k : ℕ} (m : ℕ) → t m ≡ false → Packs (keep t (upto m)) l k → Packs (keep t (upto (m + 1))) l k
+packs-past t {l} {k} m e P = subst (λ (p : List ℕ). Packs p l k) (sym (keep-next t m 0 e ∙ append-nil (keep t (upto m)))) P
 
 -- cells left of a row, one cell on
 left-next : (w c left : ℕ) → 0 < w → c % w + left ≡ w → (c + 1) % w + cond (eqb left 1) w (left - 1) ≡ w
@@ -59,24 +64,29 @@ module _ (w : ℕ) (heights levels : List ℕ) where
     some-left wide = let m = mod-lt c wide in omega (arith, Q .in-row)
 
     pub listing-next : 0 < w → 2 * c + 2 ≤ length old → (right below left′ : ℕ) → right ≡ cond (wetSide w heights levels 0 c) 1 0
-        → below ≡ cond (wetSide w heights levels 1 c) 1 0 → left′ ≡ cond (eqb left 1) w (left - 1)
-        → Listing old (set (set list k (2 * c)) (k + right) (2 * c + 1)) (k + right + below) left′ (c + 1)
+        → below ≡ cond (wetSide w heights levels 2 c) 1 0 → left′ ≡ cond (eqb left 1) w (left - 1)
+        → Listing old (set (set list k (4 * c)) (k + right) (4 * c + 2)) (k + right + below) left′ (c + 1)
     unfolding wetPairs wetPair
     listing-next wide room right below left′ er eb el =
-        let a : 2 * c % 2 ≡ 0 = omega arith in let a′ : 2 * c / 2 ≡ c = omega arith in
-        let b : (2 * c + 1) % 2 ≡ 1 = omega arith in let b′ : (2 * c + 1) / 2 ≡ c = omega arith in
-        let n : 2 * c + 1 + 1 ≡ 2 * (c + 1) = omega arith in
-        let l = length-set list k (2 * c) in
+        let a : 4 * c % 4 ≡ 0 = omega arith in let a′ : 4 * c / 4 ≡ c = omega arith in
+        let b : (4 * c + 1) % 4 ≡ 1 = omega arith in
+        let d : (4 * c + 1 + 1) % 4 ≡ 2 = omega arith in let d′ : (4 * c + 1 + 1) / 4 ≡ c = omega arith in
+        let e : (4 * c + 1 + 1 + 1) % 4 ≡ 3 = omega arith in
+        let n : 4 * c + 1 + 1 + 1 + 1 ≡ 4 * (c + 1) = omega arith in
+        let two : 4 * c + 1 + 1 ≡ 4 * c + 2 = omega arith in
+        let l = length-set list k (4 * c) in
         let mr = bit-most (wetSide w heights levels 0 c) er in
-        let mb = bit-most (wetSide w heights levels 1 c) eb in
+        let mb = bit-most (wetSide w heights levels 2 c) eb in
         record {
-          long = length-set (set list k (2 * c)) (k + right) (2 * c + 1) ∙ l ∙ Q .long;
+          long = length-set (set list k (4 * c)) (k + right) (4 * c + 2) ∙ l ∙ Q .long;
           most = omega (arith, Q .most);
-          packs = rw (← n)
-              (packs-next (wetPair w heights levels) (2 * c + 1) below (rw (b, b′) (bit-told (wetSide w heights levels 1 c) eb)) mb
+          packs = rw (← n, ← two)
+              (packs-past (wetPair w heights levels) (4 * c + 1 + 1 + 1) (rw e)
+              (packs-next (wetPair w heights levels) (4 * c + 1 + 1) below (rw (d, d′) (bit-told (wetSide w heights levels 2 c) eb)) mb
               (omega (arith, Q .long, Q .most))
-              (packs-next (wetPair w heights levels) (2 * c) right (rw (a, a′) (bit-told (wetSide w heights levels 0 c) er)) mr
-              (omega (arith, Q .long, Q .most)) (Q .packs)));
+              (packs-past (wetPair w heights levels) (4 * c + 1) (rw b)
+              (packs-next (wetPair w heights levels) (4 * c) right (rw (a, a′) (bit-told (wetSide w heights levels 0 c) er)) mr
+              (omega (arith, Q .long, Q .most)) (Q .packs)))));
           in-row = rw el (left-next w c left wide (Q .in-row));
         }
 

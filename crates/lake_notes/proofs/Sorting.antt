@@ -7,7 +7,6 @@ use Prim.Native.Nat.{ℕ, _<_, _≤_}
 use native.Mathlib.Omega.{arith}
 use lib.Arith.{digits-lt}
 use lib.ListN.{length}
-use Rattle.grid.specs.Window.{sides}
 use Rattle.lake_notes.proofs.WetPairs.{pairs-ascend, pairs-most, pairs-neighbours}
 use Rattle.lake_notes.specs.Noting.{Levelled}
 use Rattle.lake_notes.specs.WetPairs.{WetClimbing, wetPairs}
@@ -25,10 +24,11 @@ module _ {w : ℕ} {heights levels : List ℕ} (T : Levelled w heights levels) w
   abbrev pairs : List ℕ
   pairs = wetPairs w heights levels n
 
-  pub wet-sortable : {l : List ℕ} → l ≡ wetPairs w heights levels (length heights) → Sortable sides w heights l
+  pub wet-sortable : {l : List ℕ} → l ≡ wetPairs w heights levels (length heights) → Sortable w heights l
   wet-sortable e =
-      subst (Sortable sides w heights) (sym e)
+      subst (Sortable w heights) (sym e)
       (record {
+        wide = T .grid .rows .wide;
         narrow = T .grid .narrow;
         few = T .grid .few;
         lifted = T .heights-lifted;
@@ -37,10 +37,10 @@ module _ {w : ℕ} {heights levels : List ℕ} (T : Levelled w heights levels) w
         ascending = pairs-ascend w heights levels n;
       })
 
-  pub wet-climbing : {l s : List ℕ} → l ≡ wetPairs w heights levels (length heights) → SortedPairs sides w heights l s → WetClimbing w heights levels s
+  pub wet-climbing : {l s : List ℕ} → l ≡ wetPairs w heights levels (length heights) → SortedPairs w heights l s → WetClimbing w heights levels s
   wet-climbing {l} {s} e S =
       record {
-        climbing = record { narrow = T .grid .narrow; few = T .grid .few; neighbours = near; climbs = climbs };
+        climbing = record { wide = T .grid .rows .wide; narrow = T .grid .narrow; few = T .grid .few; neighbours = near; climbs = climbs };
         only = only;
         all = λ p m. S .all p (subst (λ (z : List ℕ). p ∈ z) (sym e) m);
       }
@@ -48,18 +48,18 @@ module _ {w : ℕ} {heights levels : List ℕ} (T : Levelled w heights levels) w
       only : (p : ℕ) → p ∈ s → p ∈ pairs
       only p m = subst (λ (z : List ℕ). p ∈ z) e (S .only p m)
 
-      near : Pairs sides w n s
+      near : Pairs w n s
       near p m = pairs-neighbours w heights levels (T .grid) p (only p m)
 
       high : ℕ → ℕ
-      high i = pairHeight sides w heights (at s i)
+      high i = pairHeight w heights (at s i)
 
       climbs : (i j : ℕ) → i < j → j < length s → high i ≤ high j
       climbs i j l k = go (lt-or-ge (high j) (high i))
         where
           go : (high j < high i) ⊎ (high i ≤ high j) → high i ≤ high j
           go (inl h) =
-              let d = digits-lt h (pair-small sides w n (at s j) (near (at s j) (at-member s j k)) (T .grid .few)) in
+              let d = digits-lt h (pair-small w n (at s j) (near (at s j) (at-member s j k)) (T .grid .few)) in
               let a = S .ascending i j l k in
               absurd (omega arith)
           go (inr h) = h

@@ -6,7 +6,6 @@ use mathlib.Core.Path.{refl, sym, _∙_, _≡_}
 use Prim.Native.Nat.{max, min, ℕ, _+_, _<_}
 use native.Mathlib.Omega.{arith}
 use lib.ListN.{length, set}
-use Rattle.grid.specs.Window.{sides}
 use Rattle.groups.proofs.Merging.{one-root, other-root, Searched, two-joined}
 use Rattle.groups.specs.Groups.{Joined}
 use Rattle.lake_notes.proofs.Climbs.{so-far-climbs}
@@ -71,7 +70,7 @@ pub record Turned (w : ℕ) (heights list : List ℕ) (old new : Lists) (i : ℕ
   pub so-far : (marks : List ℕ) → SoFar (tileLand rule4 w heights marks) (metTouches w list i) new
 
 pub turned-next : {w : ℕ} {heights list : List ℕ} {old l new : Lists} {i : ℕ} → Climbing w heights list → Turned w heights list old l i
-    → i < length list → Met (at heights) (lesserOf sides (at list i)) (greaterOf sides w (at list i)) l new → AsLong l new
+    → i < length list → Met (at heights) (lesserOf (at list i)) (greaterOf w (at list i)) l new → AsLong l new
     → Turned w heights list old new (i + 1)
 turned-next {i = i} C T h m k =
     record {

@@ -62,7 +62,7 @@ fn right_wet(w: usize, heights: &[u32], levels: &[u32], c: usize, left: usize) -
 // The same of cell c and the one below.
 fn below_wet(w: usize, heights: &[u32], levels: &[u32], c: usize) -> usize
     requires { ⌜ Levelled w (now heights) (now levels) × (c < length (now heights)) ⌝ }
-    ensures { λ r. ⌜ (r ≡ cond (wetSide w (now (heights .entry)) (now (levels .entry)) 1 c) 1 0) × (r ≤ 1) ⌝ }
+    ensures { λ r. ⌜ (r ≡ cond (wetSide w (now (heights .entry)) (now (levels .entry)) 2 c) 1 0) × (r ≤ 1) ⌝ }
 {
     if heights.len() <= c + w {
         return 0;
@@ -93,9 +93,9 @@ fn wet_pairs(w: usize, heights: &[u32], levels: &[u32], list: &mut [u16]) -> usi
     while c < heights.len() {
         let right = right_wet(w, heights, levels, c, left);
         let below = below_wet(w, heights, levels, c);
-        list[k] = (2 * c) as u16;
+        list[k] = (4 * c) as u16;
         k += right;
-        list[k] = (2 * c + 1) as u16;
+        list[k] = (4 * c + 2) as u16;
         k += below;
         left = next_left(w, left);
         c += 1;
@@ -111,6 +111,7 @@ pub fn climbing_pairs(w: usize, heights: &[u32], levels: &[u32], list: &mut [u16
         ⌝ }
 {
     let count = wet_pairs(w, heights, levels, list);
-    sort_pairs(w, heights, &mut list[..count]);
+    let mut spare = [0u32; 8192];
+    sort_pairs(w, heights, &mut list[..count], &mut spare);
     count
 }

@@ -4,7 +4,6 @@ ghost use mathlib.Core.List.{List};
 ghost use mathlib.Core.Path.{_≡_};
 ghost use Prim.Native.Nat.{max, min, ℕ, _<_, _≤_};
 ghost use lib.ListN.{length, set};
-ghost use Rattle.grid.specs.Window.{sides};
 ghost use Rattle.groups.specs.Groups.{Down, Joined, Root};
 ghost use Rattle.lake_notes.specs.Meeting.{Ended, flagsMet, higher, listsOf, Met, pairTop, Sized, SoFar};
 ghost use Rattle.lake_notes.specs.WetPairs.{Climbing, metTouches};
@@ -115,10 +114,10 @@ fn join_pair(
     parents: &mut [u16],
     joins: &mut [u32],
 )
-    requires { ⌜ (w ≤ 64) × (length (now heights) ≤ 4096) × (greaterOf sides w p < length (now heights)) × Down (now group) ⌝ }
+    requires { ⌜ (0 < w) × (w ≤ 64) × (length (now heights) ≤ 4096) × (greaterOf w p < length (now heights)) × Down (now group) ⌝ }
     requires { ⌜ Sized (length (now heights)) (listsOf (now group) (now lows) (now flags) (now parents) (now joins)) ⌝ }
     ensures { λ _. ⌜
-        Met (at (now (heights .entry))) (lesserOf sides p) (greaterOf sides w p)
+        Met (at (now (heights .entry))) (lesserOf p) (greaterOf w p)
         (listsOf (now (group .entry)) (now (lows .entry)) (now (flags .entry)) (now (parents .entry)) (now (joins .entry)))
         (listsOf (now (group .exit)) (now (lows .exit)) (now (flags .exit)) (now (parents .exit)) (now (joins .exit)))
         ⌝ }

@@ -21,6 +21,7 @@ use Rattle.rules.specs.Ground.{Drainable, Ground}
 use Rattle.rules.specs.Land.{Land, land4}
 use Rattle.rules.specs.Network.{level, liftedNetwork, liftedNetworkOf}
 use Rattle.rules.specs.Way.{Lawful}
+use Rattle.grid.specs.declared.Neighbours.the-variants.{Four}
 
 module _ (L : Land) where
   -- the levels of a network with sound receivers, carved or another manner's, keep the local law
@@ -85,4 +86,4 @@ module _ (L : Land) where
 -- the levels of a ground's network keep the local law
 pub ground-levels-local : (g : Ground) → Drainable g → Local (land4 g) (liftedNetworkOf g .levels)
 unfolding liftedNetwork
-ground-levels-local g o = levels-local (land4 g) (ground-lawful g o)
+ground-levels-local g o = levels-local (land4 g) (ground-lawful Four g o)

@@ -5,6 +5,7 @@ use mathlib.Core.Path.{refl, _≡_}
 use Prim.Native.Nat.{suc, ℕ}
 use lib.IntN.{negsuc, pos, ℤ}
 use lib.ListN.{replicate}
+use Rattle.grid.specs.Neighbours.{steepness}
 use Rattle.lake_rules.specs.Groups.{byLabel, groups, labelled, leastOf, lower, touches, touchesAt}
 use Rattle.lake_rules.specs.Lakes.{depth, depthWithin, inside, Lake, lakeOf, lakes, lakesOf, lakesWithin, levelOf, outermost, parts}
 use Rattle.lake_rules.specs.Lakes.{splitHeight, volumeOf, wetCells}
@@ -156,7 +157,7 @@ pub samples-right : AllRight samples
 unfolding lakes lakesOf lakesWithin lakeOf volumeOf depth depthWithin inside splitHeight parts outermost wetCells groups byLabel leastOf
     labelled lower touches touchesAt level levelWithin receivers receiver carved previous firstWay outflows leadsOut nearCell
     farCell allBut chosen lessThan linked node passes sameBasins less crossingHeight crossings crossingsAt divides join joined
-    labels firstReceiver lowerNeighbours neighbours singular singularOf steepestOf
+    labels firstReceiver lowerNeighbours neighbours singular singularOf steepness steepestOf
 samples-right = (
   (refl, refl),
   ((refl, refl), ((refl, refl), ((refl, refl), ((refl, refl), ((refl, refl), ((refl, refl), ((refl, refl), ((refl, refl), ((refl, refl), tt))))))))),

@@ -12,10 +12,11 @@ ghost use Rattle.rules.specs.Land.{land4, rule4};
 ghost use Rattle.rules.specs.Network.{liftedNetworkOf};
 ghost use Rattle.rules.specs.Tile.{tileLand};
 ghost use Rattle.stages.specs.Linking.{LawfulTile, Linked};
+use grid::Neighbours;
 use lake_list::Found;
 use lake_list::list_lakes;
 use record_stages::lift_record;
-use stages::link_cells;
+use stages::link_sides;
 use walk::walk_links;
 
 // The levels of a tile whose cells are linked. Work space: 36 KB, taken only once the cells are linked.
@@ -31,6 +32,7 @@ fn walk_levels(w: usize, heights: &[u32], marks: &[u8], links: &[u8], levels: &m
     let mut receivers = [0u16; 4096];
     let mut wet = [0u8; 4096];
     walk_links(
+        Neighbours::Four,
         w,
         heights,
         marks,
@@ -52,8 +54,8 @@ fn find_levels(w: usize, heights: &[u32], marks: &[u8], levels: &mut [u32])
         ⌝ }
 {
     let mut basins = [0u16; 4096];
-    let mut links = [0u8; 4224];
-    link_cells(w, heights, marks, &mut basins, &mut links);
+    let mut links = [0u8; 4226];
+    link_sides(w, heights, marks, &mut basins, &mut links);
     walk_levels(w, heights, marks, &links, levels);
 }
 

@@ -1,5 +1,7 @@
--- The weights of a tile's first receivers are what the flat passes ask for: first receivers fall, so no two cells are each other's.
+-- The weights of a tile's first receivers are what the flat passes ask for: a first receiver is the cell itself or a lower neighbour, so no
+-- two cells are each other's.
 -- Assumes nothing.
+use mathlib.Core.Bool.{true}
 use mathlib.Core.List.{List}
 use mathlib.Core.Logic.{inl, inr, _⊎_}
 use mathlib.Core.Path.{subst, sym, _∙_, _≡_}
@@ -7,17 +9,19 @@ use Prim.Native.Nat.{ℕ, _<_, _≤_}
 use native.Mathlib.Omega.{arith}
 use lib.ListN.{length}
 use Rattle.first_receivers.specs.Weights.{Weighed}
-use Rattle.grid.specs.Window.{sides}
+use Rattle.grid.specs.Neighbours.{placesBy}
+use Rattle.grid.specs.Window.{beside}
 use Rattle.links.specs.Leads.{Leading}
 use Rattle.lists.specs.Lists.{at}
 use Rattle.rules.proofs.FirstReceivers.{Falls, first-falls}
 use Rattle.rules.specs.FirstWays.{firstReceiver}
-use Rattle.rules.specs.Land.{Land, rule4}
+use Rattle.rules.specs.Land.{Land, ruleBy}
 use Rattle.rules.specs.Tile.{Tile, tileLand}
+use Rattle.grid.specs.declared.Neighbours.{Neighbours}
 
-module _ (w : ℕ) (heights marks : List ℕ) (T : Tile w heights marks) where
+module _ (N : Neighbours) (w : ℕ) (heights marks : List ℕ) (T : Tile w heights marks) where
   abbrev L : Land
-  L = tileLand rule4 w heights marks
+  L = tileLand (ruleBy N) w heights marks
 
   -- no two cells are each other's first receiver
   one-way : (c d : ℕ) → firstReceiver L c ≡ d → firstReceiver L d ≡ c → c ≡ d
@@ -31,7 +35,14 @@ module _ (w : ℕ) (heights marks : List ℕ) (T : Tile w heights marks) where
           let q : at heights c < at heights d = subst (λ (x : ℕ). at heights x < at heights d) f (b .down) in
           absurd (omega arith)
 
-  pub weights-leading : (weights : List ℕ) → length heights ≤ length weights → Weighed w (length heights) heights marks weights
-      → Leading sides w (length heights) (firstReceiver L) weights
+  near : (c : ℕ) → (firstReceiver L c ≡ c) ⊎ (beside (placesBy N) w c (firstReceiver L c) ≡ true)
+  near c = go (first-falls L c)
+    where
+      go : (firstReceiver L c ≡ c) ⊎ Falls L c (firstReceiver L c) → (firstReceiver L c ≡ c) ⊎ (beside (placesBy N) w c (firstReceiver L c) ≡ true)
+      go (inl e) = inl e
+      go (inr f) = inr (f .beside)
+
+  pub weights-leading : (weights : List ℕ) → length heights ≤ length weights → Weighed N w (length heights) heights marks weights
+      → Leading N w (length heights) (firstReceiver L) weights
   weights-leading weights room W =
-      record { grid = T .grid; room = room; masks = W .masks; one-way = λ c d h k e f. one-way c d e f }
+      record { grid = T .grid; room = room; masks = W .masks; one-way = λ c d h k e f. one-way c d e f; near = λ c h. near c }

@@ -1,5 +1,8 @@
+pub mod Added
 pub mod FlatPasses
 pub mod Leads
+pub mod AllPasses
+pub mod NoCorners
 pub mod FromWeights
 pub mod OneLink
 pub mod AddedLinks

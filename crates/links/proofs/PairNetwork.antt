@@ -10,9 +10,10 @@ use lib.Dec.{eqb}
 use lib.ListN.{length}
 use borrow.Author.Tests.{eq-eqb, eqb-true}
 use Rattle.grid.proofs.Masks.{mask-same, masks-filled}
+use Rattle.grid.proofs.Rules.{around-rule}
 use Rattle.grid.proofs.Window.{stands-itself}
 use Rattle.grid.specs.Masks.{joined, maskOf}
-use Rattle.grid.specs.Window.{IsRule, Stands}
+use Rattle.grid.specs.Window.{around, IsRule, Stands}
 use Rattle.lists.proofs.Any.{any-holds, any-member}
 use Rattle.lists.proofs.At.{at-member}
 use Rattle.lists.proofs.Filled.{filled-at, filled-length}
@@ -55,19 +56,19 @@ joined-both f c d = go (eqb (f c) d) (eqb (f d) c)
     go false false = refl
 
 module _ (R : Rule) (I : IsRule (R .places)) (w : ℕ) (heights marks : List ℕ) (T : Tile w heights marks) (pairs : List ℕ)
-    (C : AllChosen (tileLand R w heights marks) (map (crossingOf (R .places) w) pairs))
-    (N : Pairs (R .places) w (length heights) pairs) where
+    (C : AllChosen (tileLand R w heights marks) (map (crossingOf w) pairs))
+    (N : Pairs w (length heights) pairs) where
   abbrev L : Land
   L = tileLand R w heights marks
 
   abbrev cross : ℕ → Crossing
-  cross = crossingOf (R .places) w
+  cross = crossingOf w
 
   abbrev lo : ℕ → ℕ
-  lo = lesserOf (R .places)
+  lo = lesserOf
 
   abbrev hi : ℕ → ℕ
-  hi = greaterOf (R .places) w
+  hi = greaterOf w
 
   abbrev n : ℕ
   n = length heights
@@ -88,17 +89,17 @@ module _ (R : Rule) (I : IsRule (R .places)) (w : ℕ) (heights marks : List ℕ
         go (inr e) = differ (ap (singularOf L) (sym (eqb-true _ _ e) ∙ first-are b k) ∙ singularOf-first L b)
 
     -- with the masks of first receivers all is there that linking the pairs asks for
-    pub tile-addable : (old links : List ℕ) → n ≤ length old → links ≡ filled (maskOf (R .places) w n (joined f)) n old
-        → Addable (R .places) w n (joined f) pairs links
+    pub tile-addable : (old links : List ℕ) → n ≤ length old → links ≡ filled (maskOf around w n (joined f)) n old
+        → Addable w n (joined f) pairs links
     tile-addable old links room e =
         record {
           grid = T .grid;
-          room = let s : length links ≡ length old = ap length e ∙ filled-length (maskOf (R .places) w n (joined f)) n old room in omega arith;
+          room = let s : length links ≡ length old = ap length e ∙ filled-length (maskOf around w n (joined f)) n old room in omega arith;
           neighbours = N;
           both-ways = joined-both f;
           new = λ p m. let k = pair-crosses p m in apart _ _ (k .on-lo) (k .on-hi) (k .differ);
           once = once;
-          masks = masks-filled (R .places) w n (joined f) old links e;
+          masks = masks-filled around w n (joined f) old links e;
         }
       where
         once : (i j : ℕ) → i < j → j < length pairs → lo (at pairs i) ≡ lo (at pairs j)
@@ -115,7 +116,7 @@ module _ (R : Rule) (I : IsRule (R .places)) (w : ℕ) (heights marks : List ℕ
 
     module _ (W : Lawful L) (whole : (c : ℕ) → L .solid c ≡ true) where
       abbrev said : ℕ → ℕ → Bool
-      said = withPairs (R .places) w pairs (joined f)
+      said = withPairs w pairs (joined f)
 
       said-linked : (c d : ℕ) → c < n → d < n → (c ≡ d → ⊥) → said c d ≡ true → Linked L c d
       unfolding withPairs
@@ -156,16 +157,16 @@ module _ (R : Rule) (I : IsRule (R .places)) (w : ℕ) (heights marks : List ℕ
           go (pass-back x m p q) = chosen-said x m (λ j e g. ends-cells _ _ c d (inr (g ∙ q, e ∙ p)))
 
       -- what the walk asks for
-      pub pairs-linkage : (old links : List ℕ) → n ≤ length old → links ≡ filled (maskOf (R .places) w n (withPairs (R .places) w pairs (joined f))) n old
+      pub pairs-linkage : (old links : List ℕ) → n ≤ length old → links ≡ filled (maskOf around w n (withPairs w pairs (joined f))) n old
           → Linkage R w heights marks links (receivers L)
       pairs-linkage old links room e =
           network-linkage R I w heights marks T W links
-          (let s : length links ≡ length old = ap length e ∙ filled-length (maskOf (R .places) w n said) n old room in omega arith)
-          (λ c h. ap (λ (l : List ℕ). at l c) e ∙ filled-at (maskOf (R .places) w n said) n old c h
-          ∙ mask-same (T .grid .rows) I c said (receivesEither L (receivers L)) (λ p d m S. agrees c d h (S .on) (apart-at S m)))
+          (let s : length links ≡ length old = ap length e ∙ filled-length (maskOf around w n said) n old room in omega arith)
+          (λ c h. ap (λ (l : List ℕ). at l c) e ∙ filled-at (maskOf around w n said) n old c h
+          ∙ mask-same (T .grid .rows) around-rule c said (receivesEither L (receivers L)) (λ p d m S. agrees c d h (S .on) (apart-at S m)))
         where
-          apart-at : {c p d : ℕ} → Stands w n c p d → p ∈ R .places → c ≡ d → ⊥
-          apart-at S m e = I .no-middle (subst (λ (q : ℕ). q ∈ R .places) (stands-itself S e) m)
+          apart-at : {c p d : ℕ} → Stands w n c p d → p ∈ around → c ≡ d → ⊥
+          apart-at S m e = around-rule .no-middle (subst (λ (q : ℕ). q ∈ around) (stands-itself S e) m)
 
           agrees : (c d : ℕ) → c < n → d < n → (c ≡ d → ⊥) → said c d ≡ receivesEither L (receivers L) c d
           agrees c d h k z =

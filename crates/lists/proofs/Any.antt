@@ -2,7 +2,10 @@
 -- Assumes nothing.
 use mathlib.Core.Bool.{Bool, false, false≢true, true, _||_}
 use mathlib.Core.List.{[], List, List·Memᴰ·head as in-head, List·Memᴰ·tail as in-tail, _++_, _∷_}
-use mathlib.Core.Path.{ap, refl, sym, _∙_, _≡_}
+use mathlib.Core.Path.{ap, refl, subst, sym, _∙_, _≡_}
+use Prim.Native.Nat.{ℕ}
+use lib.Dec.{eqb}
+use borrow.Author.Tests.{eqb-true}
 use Rattle.lists.proofs.Tests.{or-right}
 use Rattle.lists.specs.Lists.{any, _∈_}
 
@@ -28,3 +31,7 @@ module _ {A : Type 0} (p : A → Bool) where
       go : (v : Bool) → any p (a ++ b) ≡ any p a || any p b → v || any p (a ++ b) ≡ (v || any p a) || any p b
       go true e = refl
       go false e = e
+
+-- a number is in a list of which it equals some element
+pub any-in : {x : ℕ} {l : List ℕ} → any (eqb x) l ≡ true → x ∈ l
+any-in {x} {l} t = let (y, m, e) = any-member (eqb x) l t in subst (λ (z : ℕ). z ∈ l) (sym (eqb-true x y e)) m

@@ -40,14 +40,15 @@ packs-bit {p} {l} {k} v b P h i =
 pub packs-none : (l : List ℕ) → Packs [] l 0
 packs-none l = record { count = refl; first = refl }
 
--- the next number, written and then counted if it passes the test
+-- the next number is kept if it passes the test
+pub keep-next : (t : ℕ → Bool) (m b : ℕ) → t m ≡ eqb b 1 → keep t (upto (m + 1)) ≡ keep t (upto m) ++ cond (eqb b 1) (m ∷ []) []
+keep-next t m b e =
+    ap (keep t) (range-split 0 m 1)
+    ∙ keep-append t (upto m) (range (0 + m) 1)
+    ∙ ap (λ (z : ℕ). keep t (upto m) ++ cond (t z) (z ∷ []) []) (zero-add m)
+    ∙ ap (λ (s : Bool). keep t (upto m) ++ cond s (m ∷ []) []) e
+
+-- written, and then counted
 pub packs-next : (t : ℕ → Bool) {l : List ℕ} {k : ℕ} (m b : ℕ) → t m ≡ eqb b 1 → b ≤ 1 → k < length l → Packs (keep t (upto m)) l k
     → Packs (keep t (upto (m + 1))) (set l k m) (k + b)
-packs-next t {l} {k} m b e i h P = subst (λ (p : List ℕ). Packs p (set l k m) (k + b)) (sym next) (packs-bit m b P h i)
-  where
-    next : keep t (upto (m + 1)) ≡ keep t (upto m) ++ cond (eqb b 1) (m ∷ []) []
-    next =
-        ap (keep t) (range-split 0 m 1)
-        ∙ keep-append t (upto m) (range (0 + m) 1)
-        ∙ ap (λ (z : ℕ). keep t (upto m) ++ cond (t z) (z ∷ []) []) (zero-add m)
-        ∙ ap (λ (s : Bool). keep t (upto m) ++ cond s (m ∷ []) []) e
+packs-next t {l} {k} m b e i h P = subst (λ (p : List ℕ). Packs p (set l k m) (k + b)) (sym (keep-next t m b e)) (packs-bit m b P h i)

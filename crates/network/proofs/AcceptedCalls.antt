@@ -6,14 +6,15 @@ use lib.IntN.{ℤ}
 use Rattle.ground.proofs.Acceptance.{lists-accepted}
 use Rattle.ground.specs.Accepted.{AcceptedLists}
 use Rattle.network.proofs.Networks.{good-full}
-use Rattle.network.specs.Call.{networkHolds, Outcome}
+use Rattle.network.specs.Call.{networkHolds, OutcomeBy}
 use Rattle.rules.proofs.SixLists.{firstOf-onto}
 use Rattle.rules.specs.Ground.{cellsOf, Ground}
-use Rattle.rules.specs.Network.{Network, network}
+use Rattle.rules.specs.Network.{Network, networkBy}
 use Rattle.rules.specs.SixLists.{firstOf, Full}
+use Rattle.grid.specs.declared.Neighbours.{Neighbours}
 use Rattle.ground.specs.declared.Judged.the-variants.{Accepted}
 
-module _ (g : Ground) (before : Network ℤ) {w h : ℕ} {after : Network ℤ} (o : Outcome g before (Accepted w h) after) where
+module _ (N : Neighbours) (g : Ground) (before : Network ℤ) {w h : ℕ} {after : Network ℤ} (o : OutcomeBy N g before (Accepted w h) after) where
   -- the ground is good, and the answer gives its size
   pub call-accepted : AcceptedLists (networkHolds before) g w h
   call-accepted = lists-accepted (networkHolds before) g (sym (o .answer))
@@ -22,9 +23,9 @@ module _ (g : Ground) (before : Network ℤ) {w h : ℕ} {after : Network ℤ} (
   call-cells = rw (call-accepted .width-is, call-accepted .height-is)
 
   -- its network has an entry for each cell
-  pub call-full : Full (cellsOf g) (network g)
-  call-full = good-full g (call-accepted .good)
+  pub call-full : Full (cellsOf g) (networkBy N g)
+  call-full = good-full N g (call-accepted .good)
 
   -- the first N entries of the lists are the network
-  pub call-network : firstOf (cellsOf g) after ≡ network g
-  call-network = firstOf-onto (cellsOf g) (network g) before call-full (o .lists)
+  pub call-network : firstOf (cellsOf g) after ≡ networkBy N g
+  call-network = firstOf-onto (cellsOf g) (networkBy N g) before call-full (o .lists)

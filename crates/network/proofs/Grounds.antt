@@ -8,7 +8,7 @@ use native.Mathlib.Nat.{mul-mod-left}
 use native.Mathlib.Omega.{arith}
 use lib.IntN.{pos}
 use lib.ListN.{getD, length, length-map, List·getD-eq-default, take}
-use Rattle.grid.proofs.Rules.{sides-rule}
+use Rattle.grid.proofs.Rules.{rule-by}
 use Rattle.grid.specs.Window.{Grid}
 use Rattle.ground.proofs.Acceptance.{good-few}
 use Rattle.ground.specs.Good.{Good}
@@ -17,10 +17,11 @@ use Rattle.lists.proofs.Map.{map-at}
 use Rattle.lists.proofs.Overwrite.{overwrite-take}
 use Rattle.lists.proofs.Tests.{lt-or-ge}
 use Rattle.lists.specs.Lists.{at, overwrite}
-use Rattle.rules.proofs.TileLawful.{tile4-lawful}
+use Rattle.rules.proofs.TileLawful.{tile-by-lawful}
 use Rattle.rules.specs.Ground.{cellsOf, Drainable, Ground, lifted}
-use Rattle.rules.specs.Land.{rule4}
+use Rattle.rules.specs.Land.{ruleBy}
 use Rattle.stages.specs.Linking.{LawfulTile}
+use Rattle.grid.specs.declared.Neighbours.{Neighbours}
 
 module _ (g : Ground) (G : Good g) where
   pub lifted-full : length (map lifted (g .heights)) ≡ cellsOf g
@@ -38,14 +39,14 @@ module _ (g : Ground) (G : Good g) where
           let l : length (map lifted (g .heights)) ≤ c = rw (length-map (g .heights) lifted) h in
           rw (List·getD-eq-default (map lifted (g .heights)) 0 l) (omega arith)
 
-  -- so it is a lawful tile
-  pub good-tile : LawfulTile rule4 (g .width) (map lifted (g .heights)) (g .marks)
-  good-tile =
+  -- so it is a lawful tile, whatever neighbours are asked for
+  pub good-tile : (N : Neighbours) → LawfulTile (ruleBy N) (g .width) (map lifted (g .heights)) (g .marks)
+  good-tile N =
       record {
-        is-rule = sides-rule;
+        is-rule = rule-by N;
         tile = record { grid = grid; marked = G .marks-full ∙ sym lifted-full; lifted = lifted-low };
         lawful =
-            tile4-lawful (g .width) (length (map lifted (g .heights))) (map lifted (g .heights)) (g .marks) (grid .rows) (G .outlet)
+            tile-by-lawful N (g .width) (length (map lifted (g .heights))) (map lifted (g .heights)) (g .marks) (grid .rows) (G .outlet)
             (rw lifted-full (G .outlet-below)) (G .outlet-marked);
         whole = λ c. refl;
       }

@@ -7,22 +7,23 @@ use Rattle.ground.proofs.Acceptance.{good-few}
 use Rattle.ground.specs.Good.{Good}
 use Rattle.network.proofs.AcceptedCalls.{call-accepted, call-network}
 use Rattle.network.proofs.Grounds.{good-drainable}
-use Rattle.network.specs.Call.{Outcome}
+use Rattle.network.specs.Call.{OutcomeBy}
 use Rattle.rules.proofs.LeftDemand3.{left-demand-3, left-traced}
 use Rattle.rules.specs.Ground.{Ground}
 use Rattle.rules.specs.Left.{LeftDemand3}
 use Rattle.rules.specs.LeftTrace.{LeftTraced}
 use Rattle.rules.specs.Network.{Network}
+use Rattle.grid.specs.declared.Neighbours.{Neighbours}
 use Rattle.ground.specs.declared.Judged.the-variants.{Accepted}
 
 -- any outcome of a tile that is accepted
-module _ (g : Ground) (before : Network ℤ) {w h : ℕ} {after : Network ℤ} (o : Outcome g before (Accepted w h) after) where
+module _ (N : Neighbours) (g : Ground) (before : Network ℤ) {w h : ℕ} {after : Network ℤ} (o : OutcomeBy N g before (Accepted w h) after) where
   good : Good g
-  good = call-accepted g before o .good
+  good = call-accepted N g before o .good
 
-  pub call-demand-3 : LeftDemand3 g after
-  call-demand-3 = left-demand-3 g (good-drainable g good) after (call-network g before o)
+  pub call-demand-3 : LeftDemand3 N g after
+  call-demand-3 = left-demand-3 N g (good-drainable g good) after (call-network N g before o)
 
   -- and a trace along the receivers reaches the outlet
-  pub call-traced : LeftTraced g after
-  call-traced = left-traced g after call-demand-3 (good-few g good)
+  pub call-traced : LeftTraced N g after
+  call-traced = left-traced N g after call-demand-3 (good-few g good)

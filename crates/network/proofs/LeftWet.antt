@@ -19,16 +19,17 @@ use Rattle.lists.specs.Lists.{at}
 use Rattle.network.proofs.AcceptedCalls.{call-accepted, call-network}
 use Rattle.network.proofs.Grounds.{lifted-low}
 use Rattle.network.proofs.Networks.{drains}
-use Rattle.network.specs.Call.{Outcome}
+use Rattle.network.specs.Call.{OutcomeBy}
 use Rattle.rules.proofs.Bounds.{level-most}
 use Rattle.rules.proofs.SixLists.{networkOf-level}
 use Rattle.rules.specs.Carving.{receivers}
 use Rattle.rules.specs.Ground.{cellsOf, dropped, Ground, lifted}
-use Rattle.rules.specs.Land.{Land, land4, landOf, Rule, rule4}
+use Rattle.rules.specs.Land.{Land, landBy, landOf, Rule, ruleBy}
 use Rattle.rules.specs.LeftWet.{LeftWet}
-use Rattle.rules.specs.Network.{level, liftedNetwork, Network, network, networkOf, wet}
+use Rattle.rules.specs.Network.{level, liftedNetwork, Network, networkBy, networkOf, wet}
 use Rattle.rules.specs.SixLists.{firstOf}
 use Rattle.rules.specs.Way.{Drains}
+use Rattle.grid.specs.declared.Neighbours.{Neighbours}
 use Rattle.ground.specs.declared.Judged.the-variants.{Accepted}
 
 module _ (R : Rule) (g : Ground) (G : Good g) (r : List ℕ) (D : Drains (landOf R g) r)
@@ -57,11 +58,11 @@ module _ (R : Rule) (g : Ground) (G : Good g) (r : List ℕ) (D : Drains (landOf
       ∙ ap (λ (v : ℤ). cond (ltZ z v) 1 0)
       (ap (λ (t : Network ℤ). getD (t .levels) c (pos 0)) (sym e) ∙ getD-take (cellsOf g) (s .levels) c (pos 0) h)
 
--- with document 01's rule, carved
-pub good-wet : (g : Ground) → Good g → (s : Network ℤ) → firstOf (cellsOf g) s ≡ network g → LeftWet g s
-unfolding network
-good-wet g G = left-wet rule4 g G (receivers (land4 g)) (drains g G) (λ c h. refl)
+-- over the neighbours asked for, carved
+pub good-wet : (N : Neighbours) (g : Ground) → Good g → (s : Network ℤ) → firstOf (cellsOf g) s ≡ networkBy N g → LeftWet g s
+unfolding networkBy
+good-wet N g G = left-wet (ruleBy N) g G (receivers (landBy N g)) (drains N g G) (λ c h. refl)
 
 -- any outcome of a tile that is accepted
-pub call-wet : (g : Ground) (before : Network ℤ) {w h : ℕ} {after : Network ℤ} → Outcome g before (Accepted w h) after → LeftWet g after
-call-wet g before {after = after} o = good-wet g (call-accepted g before o .good) after (call-network g before o)
+pub call-wet : (N : Neighbours) (g : Ground) (before : Network ℤ) {w h : ℕ} {after : Network ℤ} → OutcomeBy N g before (Accepted w h) after → LeftWet g after
+call-wet N g before {after = after} o = good-wet N g (call-accepted N g before o .good) after (call-network N g before o)

@@ -7,8 +7,10 @@ use Rattle.ground.specs.Judge.{judgeLists}
 use Rattle.ground.specs.Rooms.{roomFor}
 use Rattle.lists.specs.Allowed.{Allowed}
 use Rattle.rules.specs.Ground.{Ground}
-use Rattle.rules.specs.Network.{Network, network}
+use Rattle.rules.specs.Network.{Network, networkBy}
 use Rattle.rules.specs.SixLists.{onto, shortest}
+use Rattle.grid.specs.declared.Neighbours.{Neighbours}
+use Rattle.grid.specs.declared.Neighbours.the-variants.{Four}
 use Rattle.ground.specs.declared.Judged.{Judged}
 use Rattle.ground.specs.declared.Judged.the-variants.{Accepted, Refused}
 
@@ -25,7 +27,11 @@ networkHolds before = roomFor 1 0 (shortest before)
 abbrev pub Draws : (said : Judged) (net before : Network ℤ) (r : Judged) (after : Network ℤ) → Type 0
 Draws said net before = Allowed said (λ r. left r net before)
 
--- the outcome of a call on a ground: the answer is the judgement of its lists; where it accepts, its network stands at the start of the
--- six lent lists, and where it refuses they are as they were
+-- the outcome of a call on a ground, over the neighbours asked for: the answer is the judgement of its lists; where it accepts, its network
+-- stands at the start of the six lent lists, and where it refuses they are as they were
+abbrev pub OutcomeBy : Neighbours → (g : Ground) (before : Network ℤ) (r : Judged) (after : Network ℤ) → Type 0
+OutcomeBy N g before = Draws (judgeLists (networkHolds before) g) (networkBy N g) before
+
+-- document 01's call
 abbrev pub Outcome : (g : Ground) (before : Network ℤ) (r : Judged) (after : Network ℤ) → Type 0
-Outcome g before = Draws (judgeLists (networkHolds before) g) (network g) before
+Outcome = OutcomeBy Four

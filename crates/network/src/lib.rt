@@ -7,11 +7,12 @@ ghost use lib.ListN.{length, take};
 ghost use Rattle.ground.specs.Good.{Good};
 ghost use Rattle.ground.specs.Record.{groundOfLists};
 ghost use Rattle.lists.specs.Lists.{overwrite};
-ghost use Rattle.network.specs.Call.{Outcome};
+ghost use Rattle.network.specs.Call.{Outcome, OutcomeBy};
 ghost use Rattle.network.specs.Lifting.{InRange};
 ghost use Rattle.rules.specs.Ground.{dropped, lifted, Lifted};
-ghost use Rattle.rules.specs.Network.{network};
+ghost use Rattle.rules.specs.Network.{networkBy};
 ghost use Rattle.rules.specs.SixLists.{Holds, onto, shortest, sixLists};
+use grid::Neighbours;
 use ground::Judged;
 use ground::Room;
 use lists::least;
@@ -61,6 +62,7 @@ fn shortest_length(
 
 // The network of an accepted ground. Its own work space is 32 KB, and that of the stages comes to it.
 fn fill(
+    neighbours: Neighbours,
     width: u16,
     height: u16,
     heights: &[i32],
@@ -80,7 +82,7 @@ fn fill(
     ensures { λ _. ⌜
         sixLists (now (receivers .exit)) (now (basins .exit)) (now (order .exit)) (now (levels .exit)) (now (drainage .exit))
         (now (wet .exit))
-        ≡ onto (network (groundOfLists width height (now (heights .entry)) (now (marks .entry)) (now (water .entry))))
+        ≡ onto (networkBy neighbours (groundOfLists width height (now (heights .entry)) (now (marks .entry)) (now (water .entry))))
         (sixLists (now (receivers .entry)) (now (basins .entry)) (now (order .entry)) (now (levels .entry)) (now (drainage .entry))
         (now (wet .entry)))
         ⌝ }
@@ -91,6 +93,7 @@ fn fill(
     let mut lifted_levels = [0u32; 4096];
     lift_heights(heights, &mut lifted);
     work_out(
+        neighbours,
         w,
         &lifted[..n],
         marks,
@@ -105,8 +108,61 @@ fn fill(
     drop_levels(n, &lifted_levels, levels);
 }
 
-// The network of a tile. Refusals 1, 2, 3, 4, 5 and 6, in the table's order. A refusal leaves every lent list as it was; on
+// The network of a tile over the neighbours asked for. Refusals 1, 2, 3, 4, 5 and 6, in the table's order. A refusal leaves every lent list as it was; on
 // acceptance the entries past N stay.
+pub fn network_over(
+    neighbours: Neighbours,
+    width: u16,
+    height: u16,
+    heights: &[i32],
+    marks: &[u8],
+    water: &[u16],
+    receivers: &mut [u16],
+    basins: &mut [u16],
+    order: &mut [u16],
+    levels: &mut [i32],
+    drainage: &mut [u32],
+    wet: &mut [u8],
+) -> Judged
+    ensures { λ r.
+        let g = groundOfLists width height (now (heights .entry)) (now (marks .entry)) (now (water .entry)) in
+        let before =
+        sixLists (now (receivers .entry)) (now (basins .entry)) (now (order .entry)) (now (levels .entry)) (now (drainage .entry))
+        (now (wet .entry)) in
+        let after =
+        sixLists (now (receivers .exit)) (now (basins .exit)) (now (order .exit)) (now (levels .exit)) (now (drainage .exit))
+        (now (wet .exit)) in
+        ⌜ OutcomeBy neighbours g before r after ⌝ }
+{
+    let room = Room {
+        each: 1,
+        fixed: 0,
+        len: shortest_length(receivers, basins, order, levels, drainage, wet),
+    };
+    let judged = ground::judge_lists(width, height, heights, marks, water, room);
+    match judged {
+        Judged::Refused(why) => Judged::Refused(why),
+        Judged::Accepted(w, h) => {
+            fill(
+                neighbours,
+                width,
+                height,
+                heights,
+                marks,
+                water,
+                receivers,
+                basins,
+                order,
+                levels,
+                drainage,
+                wet,
+            );
+            Judged::Accepted(w, h)
+        }
+    }
+}
+
+// The same with document 01's 4 neighbours.
 pub fn network(
     width: u16,
     height: u16,
@@ -130,29 +186,18 @@ pub fn network(
         (now (wet .exit)) in
         ⌜ Outcome g before r after ⌝ }
 {
-    let room = Room {
-        each: 1,
-        fixed: 0,
-        len: shortest_length(receivers, basins, order, levels, drainage, wet),
-    };
-    let judged = ground::judge_lists(width, height, heights, marks, water, room);
-    match judged {
-        Judged::Refused(why) => Judged::Refused(why),
-        Judged::Accepted(w, h) => {
-            fill(
-                width,
-                height,
-                heights,
-                marks,
-                water,
-                receivers,
-                basins,
-                order,
-                levels,
-                drainage,
-                wet,
-            );
-            Judged::Accepted(w, h)
-        }
-    }
+    network_over(
+        Neighbours::Four,
+        width,
+        height,
+        heights,
+        marks,
+        water,
+        receivers,
+        basins,
+        order,
+        levels,
+        drainage,
+        wet,
+    )
 }

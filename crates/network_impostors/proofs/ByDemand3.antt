@@ -17,6 +17,7 @@ use Rattle.rules.specs.Land.{Land, land4}
 use Rattle.rules.specs.Left.{LeftDemand3}
 use Rattle.rules.specs.Network.{drainage, liftedNetwork, Network, networkOf, outlets}
 use Rattle.rules.specs.Samples.{groundE}
+use Rattle.grid.specs.declared.Neighbours.the-variants.{Four}
 use Rattle.ground.specs.declared.Judged.{Judged}
 
 -- following a cell that is its own receiver never leaves it, so that no outlet is reached unless it is one
@@ -25,14 +26,14 @@ own-not-followed L r c o e F =
     false≢true (sym (ap (L .outlet) (repeat-fixed (at r) (F .steps) c e) ∙ o) ∙ F .outlet-reached)
 
 -- each cell its own receiver: the hill of sample E reaches no outlet
-pub own-receiver-demand-3 : (r : Judged) (after : Network ℤ) → LeavesWrong ownReceivers groundE (zeros 3) r after → LeftDemand3 groundE after → ⊥
+pub own-receiver-demand-3 : (r : Judged) (after : Network ℤ) → LeavesWrong ownReceivers groundE (zeros 3) r after → LeftDemand3 Four groundE after → ⊥
 own-receiver-demand-3 r after d D =
     own-not-followed (land4 groundE) (take 3 (after .receivers)) 1 refl
     (ap (λ (s : Network ℤ). at (take 3 (s .receivers)) 1) (left-on-E ownReceivers d))
     (D .demands .followed 1 (omega arith) refl)
 
 -- zeros for drainage: the outlets of sample E would drain 0, and its water is 3
-pub zero-levels-demand-3 : (r : Judged) (after : Network ℤ) → LeavesWrong zeroLevels groundE (zeros 3) r after → LeftDemand3 groundE after → ⊥
+pub zero-levels-demand-3 : (r : Judged) (after : Network ℤ) → LeavesWrong zeroLevels groundE (zeros 3) r after → LeftDemand3 Four groundE after → ⊥
 unfolding networkOf liftedNetwork outlets solidCells
 zero-levels-demand-3 r after d D =
     let drained : ℕ → ℕ = drainage (land4 groundE) (groundE .water) (take 3 (after .receivers)) in

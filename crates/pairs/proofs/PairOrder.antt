@@ -5,22 +5,19 @@ use mathlib.Core.Bool.{true}
 use mathlib.Core.List.{[], List, List·Memᴰ·head as in-head, List·Memᴰ·tail as in-tail, map, _∷_}
 use mathlib.Core.Logic.{inl, inr, _⊎_}
 use mathlib.Core.Path.{ap, refl, subst, sym, _∙_, _≡_}
-use Prim.Native.Nat.{ℕ, _%_, _*_, _<_, _≤_}
-use native.Mathlib.Nat.{div-add-mod'}
+use Prim.Native.Nat.{ℕ, _*_, _<_, _≤_}
 use native.Mathlib.Omega.{arith}
 use lib.Arith.{digits-lt}
-use lib.Dec.{ltb}
 use lib.ListN.{length}
 use Rattle.grid.proofs.Window.{stands-less, stands-place}
-use Rattle.grid.specs.Window.{IsRule, placeOf, Stands}
+use Rattle.grid.specs.Window.{placeOf, Stands}
 use Rattle.lists.proofs.Ascending.{ascending-rises}
 use Rattle.lists.proofs.Map.{map-holds, map-member}
-use Rattle.lists.proofs.Sorted.{sorted-at, sorted-keep}
 use Rattle.lists.proofs.Tests.{eq, eq-or-ne, gt, lt, lt-or-ge, Three, three}
 use Rattle.lists.specs.Ascending.{AscendingBy, Rising, rising-next}
-use Rattle.lists.specs.Lists.{at, _∈_}
-use Rattle.pairs.proofs.Pairs.{pair-number, pair-small}
-use Rattle.pairs.specs.Pairs.{crossingOf, greaterOf, IsPair, later, lesserOf, mostPairs, pairHeight, pairKey, Pairs, placeIn}
+use Rattle.lists.specs.Lists.{_∈_}
+use Rattle.pairs.proofs.Pairs.{pair-small}
+use Rattle.pairs.specs.Pairs.{crossingOf, greaterOf, IsPair, lesserOf, mostPairs, pairHeight, pairKey, Pairs, placeIn}
 use Rattle.rules.proofs.CrossingOrder.{by-greater, by-height, by-lesser, Less, Less→less}
 use Rattle.rules.specs.Enough.{Enough, first, InOrder, none, Suffices}
 use Rattle.rules.specs.Land.{Land, Rule}
@@ -44,42 +41,27 @@ less-by L x y h f = Less→less L x y (go (eq-or-ne (crossingHeight L x) (crossi
     go (inl e) = tie e (f e)
     go (inr z) = by-height (omega arith)
 
-module _ (places : List ℕ) (I : IsRule places) (w n p q : ℕ) (P : IsPair places w n p) (Q : IsPair places w n q) where
-  abbrev k : ℕ
-  k = length (later places)
-
-  -- of two numbers of later places the lesser is the lesser place
-  place-less : (i j : ℕ) → i < j → j < k → at (later places) i < at (later places) j
-  place-less = sorted-at (sorted-keep (ltb 4) (I .ascending))
-
+module _ (w n p q : ℕ) (P : IsPair w n p) (Q : IsPair w n q) where
   -- the lesser pair has the lesser cells
-  pub pair-order : 0 < w → p < q → CellsLess (crossingOf places w p) (crossingOf places w q)
-  pair-order wide h = go (three (lesserOf places p) (lesserOf places q))
+  pub pair-order : 0 < w → p < q → CellsLess (crossingOf w p) (crossingOf w q)
+  pair-order wide h = go (three (lesserOf p) (lesserOf q))
     where
-      go : Three (lesserOf places p) (lesserOf places q) → CellsLess (crossingOf places w p) (crossingOf places w q)
+      go : Three (lesserOf p) (lesserOf q) → CellsLess (crossingOf w p) (crossingOf w q)
       go (lt l) = inl l
-      go (gt l) = let d = digits-lt l (pair-number places w n q Q) in absurd (omega (arith, div-add-mod' p k, div-add-mod' q k))
+      go (gt l) = absurd (omega arith)
       go (eq e) =
-          let f = ap (λ (x : ℕ). x * length (later places)) e in
-          let T = subst (λ (c : ℕ). Stands w n c (placeIn places q) (greaterOf places w q)) (sym e) Q in
-          let l = place-less (p % k) (q % k) (omega (arith, div-add-mod' p k, div-add-mod' q k)) (pair-number places w n q Q) in
-          inr (e, stands-less P wide T l)
+          let T = subst (λ (c : ℕ). Stands w n c (placeIn q) (greaterOf w q)) (sym e) Q in
+          inr (e, stands-less P wide T (omega arith))
 
   -- a crossing has one pair
-  pub pair-one : crossingOf places w p ≡ crossingOf places w q → p ≡ q
-  pair-one e = go (three (p % k) (q % k))
-    where
-      same : placeIn places p ≡ placeIn places q
-      same = sym (stands-place P) ∙ ap (λ (x : Crossing). placeOf w (x .lesser) (x .greater)) e ∙ stands-place Q
+  pub pair-one : crossingOf w p ≡ crossingOf w q → p ≡ q
+  pair-one e =
+      let same : placeIn p ≡ placeIn q =
+      sym (stands-place P) ∙ ap (λ (x : Crossing). placeOf w (x .lesser) (x .greater)) e ∙ stands-place Q in
+      let less : lesserOf p ≡ lesserOf q = ap (λ (x : Crossing). x .lesser) e in
+      omega arith
 
-      go : Three (p % length (later places)) (q % length (later places)) → p ≡ q
-      go (lt l) = let d = place-less (p % k) (q % k) l (pair-number places w n q Q) in absurd (omega (arith, same))
-      go (gt l) = let d = place-less (q % k) (p % k) l (pair-number places w n p P) in absurd (omega (arith, same))
-      go (eq l) =
-          let f = ap (λ (x : Crossing). x .lesser * length (later places)) e in
-          omega (arith, div-add-mod' p k, div-add-mod' q k)
-
-module _ (R : Rule) (I : IsRule (R .places)) (w : ℕ) (heights marks : List ℕ) (T : Tile w heights marks) where
+module _ (R : Rule) (w : ℕ) (heights marks : List ℕ) (T : Tile w heights marks) where
   abbrev L : Land
   L = tileLand R w heights marks
 
@@ -87,26 +69,26 @@ module _ (R : Rule) (I : IsRule (R .places)) (w : ℕ) (heights marks : List ℕ
   n = length heights
 
   abbrev cross : ℕ → Crossing
-  cross = crossingOf (R .places) w
+  cross = crossingOf w
 
   abbrev high : ℕ → ℕ
-  high = pairHeight (R .places) w heights
+  high = pairHeight w heights
 
-  key-less : (p q : ℕ) → IsPair (R .places) w n p → IsPair (R .places) w n q
-      → pairKey (R .places) w heights p < pairKey (R .places) w heights q → less L (cross p) (cross q) ≡ true
+  key-less : (p q : ℕ) → IsPair w n p → IsPair w n q
+      → pairKey w heights p < pairKey w heights q → less L (cross p) (cross q) ≡ true
   unfolding crossingHeight
   key-less p q i j l = less-by L (cross p) (cross q) (no-higher (lt-or-ge (high q) (high p))) same
     where
       no-higher : (high q < high p) ⊎ (high p ≤ high q) → high p ≤ high q
-      no-higher (inl h) = let d = digits-lt h (pair-small (R .places) w n q j (T .grid .few)) in absurd (omega arith)
+      no-higher (inl h) = let d = digits-lt h (pair-small w n q j (T .grid .few)) in absurd (omega arith)
       no-higher (inr h) = h
 
       same : high p ≡ high q → CellsLess (cross p) (cross q)
       same e =
-          let f = ap (λ (z : ℕ). z * mostPairs (R .places) 4096) e in
-          pair-order (R .places) I w n p q i j (T .grid .rows .wide) (omega arith)
+          let f = ap (λ (z : ℕ). z * mostPairs 4096) e in
+          pair-order w n p q i j (T .grid .rows .wide) (omega arith)
 
-  in-order : (s : List ℕ) → Pairs (R .places) w n s → Rising (pairKey (R .places) w heights) s → InOrder L (map cross s)
+  in-order : (s : List ℕ) → Pairs w n s → Rising (pairKey w heights) s → InOrder L (map cross s)
   in-order [] k r = none
   in-order (x ∷ xs) k (rising-next u r) = first (λ y m. go y (map-member cross xs m)) (in-order xs (λ p m. k p (in-tail m)) r)
     where
@@ -115,12 +97,12 @@ module _ (R : Rule) (I : IsRule (R .places)) (w : ℕ) (heights marks : List ℕ
           subst (λ (z : Crossing). less L (cross x) z ≡ true) (sym e) (key-less x p (k x (in-head refl)) (k p (in-tail m)) (u p m))
 
   -- pairs K that suffice, and s, the same pairs ascending by height and number
-  pub sorted-enough : (K s : List ℕ) → Pairs (R .places) w n K → Suffices L (map cross K)
-      → ((p : ℕ) → p ∈ s → p ∈ K) → ((p : ℕ) → p ∈ K → p ∈ s) → AscendingBy (pairKey (R .places) w heights) s → Enough L (map cross s)
+  pub sorted-enough : (K s : List ℕ) → Pairs w n K → Suffices L (map cross K)
+      → ((p : ℕ) → p ∈ s → p ∈ K) → ((p : ℕ) → p ∈ K → p ∈ s) → AscendingBy (pairKey w heights) s → Enough L (map cross s)
   sorted-enough K s on S f g u =
       record {
         suffices = record { only = λ x m. S .only x (moved s K f x m); all = λ x m. moved K s g x (S .all x m) };
-        ordered = in-order s (λ p m. on p (f p m)) (ascending-rises (pairKey (R .places) w heights) s u);
+        ordered = in-order s (λ p m. on p (f p m)) (ascending-rises (pairKey w heights) s u);
       }
     where
       moved : (a b : List ℕ) → ((p : ℕ) → p ∈ a → p ∈ b) → (x : Crossing) → x ∈ map cross a → x ∈ map cross b

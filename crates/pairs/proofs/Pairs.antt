@@ -1,82 +1,56 @@
--- Pairs over a rule's places: the pair of two cells, and what a pair says of its cells.
+-- Pairs: the pair of two cells, and what a pair says of its cells.
 -- Assumes nothing.
-use mathlib.Core.Bool.{true}
-use mathlib.Core.List.{[], List, _∷_}
-use mathlib.Core.Path.{ap, _∙_, _≡_}
-use Prim.Native.Nat.{suc, zero, ℕ, _%_, _*_, _+_, _-_, _/_, _<_, _≤_}
-use native.Mathlib.Nat.{div-add-mod', div-zero, mod-lt, one-mul, zero-div, zero-mul}
+use mathlib.Core.Logic.{inl, inr, _⊎_}
+use mathlib.Core.Path.{_≡_}
+use Prim.Native.Nat.{ℕ, _%_, _*_, _+_, _-_, _/_, _<_, _≤_}
 use native.Mathlib.Omega.{arith}
-use lib.Arith.{digits-div, digits-lt, digits-mod}
-use lib.Dec.{ltb}
-use lib.ListN.{length}
-use borrow.Author.Tests.{ltb-true}
-use Rattle.grid.proofs.Window.{stands-beside, stands-greater, stands-number}
-use Rattle.grid.specs.Window.{beside, sides, Stands}
-use Rattle.lists.proofs.At.{at-member}
-use Rattle.lists.proofs.Keep.{keep-member}
-use Rattle.lists.specs.Lists.{at, _∈_}
-use Rattle.pairs.specs.Pairs.{crossingOf, greaterOf, IsPair, later, lesserOf, mostPairs, placeIn}
+use Rattle.grid.proofs.Window.{stands-greater, stands-number}
+use Rattle.grid.specs.Window.{Stands}
+use Rattle.lists.proofs.Tests.{eq-or-ne}
+use Rattle.pairs.specs.Pairs.{crossingOf, greaterOf, IsPair, lesserOf, mostPairs, placeIn}
 
--- the pair of c and d, where d stands at number i of the later places
-module _ (places : List ℕ) {w n c d : ℕ} (p i : ℕ) (e : p ≡ c * length (later places) + i) (h : i < length (later places))
-    (S : Stands w n c (at (later places) i) d) where
-  lesser-is : lesserOf places p ≡ c
-  lesser-is = ap (λ (x : ℕ). x / length (later places)) e ∙ digits-div c h
+-- the pair of c and d, where d stands i places after the middle and one more
+module _ {w n c d : ℕ} (p i : ℕ) (e : p ≡ 4 * c + i) (h : i < 4) (S : Stands w n c (5 + i) d) where
+  lesser-is : lesserOf p ≡ c
+  lesser-is = omega arith
 
-  place-is : placeIn places p ≡ at (later places) i
-  place-is = ap (λ (x : ℕ). at (later places) (x % length (later places))) e ∙ ap (at (later places)) (digits-mod c h)
+  place-is : placeIn p ≡ 5 + i
+  place-is = omega arith
 
-  greater-is : greaterOf places w p ≡ d
+  greater-is : greaterOf w p ≡ d
   greater-is = rw (lesser-is, place-is) (let f = stands-number S in omega arith)
 
-  pub pair-crossing : crossingOf places w p ≡ record { lesser = c; greater = d }
+  pub pair-crossing : crossingOf w p ≡ record { lesser = c; greater = d }
   pair-crossing = λ j. record { lesser = lesser-is j; greater = greater-is j }
 
-  pub pair-stands : IsPair places w n p
+  pub pair-stands : IsPair w n p
   pair-stands = rw (greater-is, lesser-is, place-is) S
 
-module _ (places : List ℕ) (w n p : ℕ) (S : IsPair places w n p) where
-  -- a rule with no later place has no pairs
-  some-later : 0 < length (later places)
-  some-later = go (later places) S
-    where
-      go : (l : List ℕ) → Stands w n (p / length l) (at l (p % length l)) (greaterOf places w p) → 0 < length l
-      go (x ∷ xs) T = omega arith
-      go [] T =
-          let r = T .row in
-          let z = ap (λ (x : ℕ). x / w) (div-zero p) ∙ zero-div w in
-          absurd (omega arith)
-
-  pub pair-number : p % length (later places) < length (later places)
-  pair-number = mod-lt p some-later
-
-  place-later : (placeIn places p ∈ places) × (ltb 4 (placeIn places p) ≡ true)
-  place-later = keep-member (ltb 4) places (at-member (later places) (p % length (later places)) pair-number)
-
+module _ (w n p : ℕ) (S : IsPair w n p) where
   -- its cells
-  pub pair-beside : beside places w (lesserOf places p) (greaterOf places w p) ≡ true
-  pair-beside = stands-beside S (place-later .0)
+  pub pair-rises : lesserOf p < greaterOf w p
+  pair-rises = stands-greater (omega arith) S
 
-  pub pair-rises : lesserOf places p < greaterOf places w p
-  pair-rises = stands-greater (ltb-true _ _ (place-later .1)) S
-
-  pub pair-lesser : lesserOf places p < n
+  pub pair-lesser : lesserOf p < n
   pair-lesser = let o = S .on in let r = pair-rises in omega arith
 
   -- pairs of at most 4,096 cells
-  pub pair-small : n ≤ 4096 → p < mostPairs places 4096
-  pair-small few =
-      let l = pair-lesser in
-      let d = digits-lt {q = lesserOf places p} {m = 4096} (omega arith) pair-number in
-      let e = div-add-mod' p (length (later places)) in
-      omega arith
+  pub pair-small : n ≤ 4096 → p < mostPairs 4096
+  pair-small few = let l = pair-lesser in omega arith
 
--- document 01's sides: from the lesser cell a pair goes one on, or w, by whether its number is odd
-pub side-step : (odd w : ℕ) → odd ≤ 1
-    → (odd * w ≤ w) × (odd * w + (1 - odd) + (w + 1) ≡ at (later sides) odd / 3 * w + at (later sides) odd % 3)
-side-step zero w h = rw (zero-mul w) (omega arith, omega arith)
-side-step (suc zero) w h = rw (one-mul w) (omega arith, omega arith)
-side-step (suc (suc odd)) w h = absurd (omega arith)
+-- how far the greater cell is from the lesser: one on, or a row on, and from there one back, none or one on
+pub step-on : (w : ℕ) → 1 + (w + 1) ≡ (5 + 0) / 3 * w + (5 + 0) % 3
+step-on w = omega arith
 
-pub side-rises : (w p : ℕ) → lesserOf sides p ≤ greaterOf sides w p
-side-rises w p = let s = side-step (p % 2) w (omega arith) .1 in omega arith
+pub step-down : (w i : ℕ) → 0 < w → 0 < i → i < 4 → w + i - 2 + (w + 1) ≡ (5 + i) / 3 * w + (5 + i) % 3
+step-down w i h k l =
+    let e : (5 + i) / 3 ≡ 2 = omega arith in
+    let f : (5 + i) % 3 ≡ i - 1 = omega arith in
+    rw (e, f) (omega arith)
+
+pub pair-climbs : (w p : ℕ) → 0 < w → lesserOf p ≤ greaterOf w p
+pair-climbs w p h = go (eq-or-ne (p % 4) 0)
+  where
+    go : (p % 4 ≡ 0) ⊎ (p % 4 ≡ 0 → ⊥) → lesserOf p ≤ greaterOf w p
+    go (inl e) = let s = step-on w in rw e (omega arith)
+    go (inr z) = let s = step-down w (p % 4) h (omega (arith, z)) (omega arith) in omega arith

@@ -4,13 +4,13 @@ ghost use mathlib.Core.List.{List};
 ghost use mathlib.Core.Path.{_≡_};
 ghost use Prim.Native.Nat.{ℕ, _<_, _≤_};
 ghost use lib.ListN.{length};
-ghost use Rattle.grid.specs.Window.{sides};
 ghost use Rattle.groups.specs.Groups.{Down, Joined, twoGroups};
 ghost use Rattle.lists.specs.Lists.{at, upto};
 ghost use Rattle.pairs.specs.Pairs.{crossingOf, greaterOf, lesserOf};
 ghost use Rattle.passes.specs.Choosing.{Choosable, PairsChosen};
 ghost use Rattle.passes.specs.Picking.{Pickable, Picked};
-ghost use Rattle.rules.specs.Land.{Land, rule4};
+ghost use Rattle.rules.specs.Land.{Land};
+use grid::Neighbours;
 use groups::alone;
 use groups::unite;
 use kinds::Basin;
@@ -21,11 +21,11 @@ use squares::list_pairs;
 
 // The groups of a pair's two labels become one. Gives 1 where they were two, and 0 where they were one already.
 fn join(w: usize, labels: &[u16], p: u16, group: &mut [u16]) -> u8
-    requires { ⌜ (w ≤ 64) × (length (now labels) ≤ 4096) × Down (now group) ⌝ }
-    requires { ⌜ (greaterOf sides w p < length (now labels)) × ((c : ℕ) → c < length (now labels) → at (now labels) c < length (now group)) ⌝ }
+    requires { ⌜ (0 < w) × (w ≤ 64) × (length (now labels) ≤ 4096) × Down (now group) ⌝ }
+    requires { ⌜ (greaterOf w p < length (now labels)) × ((c : ℕ) → c < length (now labels) → at (now labels) c < length (now group)) ⌝ }
     ensures { λ r. ⌜
-        (r ≡ twoGroups (now (group .entry)) (at (now (labels .entry)) (lesserOf sides p)) (at (now (labels .entry)) (greaterOf sides w p)))
-        × Joined (now (group .entry)) (at (now (labels .entry)) (lesserOf sides p)) (at (now (labels .entry)) (greaterOf sides w p)) (now (group .exit))
+        (r ≡ twoGroups (now (group .entry)) (at (now (labels .entry)) (lesserOf p)) (at (now (labels .entry)) (greaterOf w p)))
+        × Joined (now (group .entry)) (at (now (labels .entry)) (lesserOf p)) (at (now (labels .entry)) (greaterOf w p)) (now (group .exit))
         ⌝ }
 {
     let a = lesser(p);
@@ -41,11 +41,11 @@ fn join(w: usize, labels: &[u16], p: u16, group: &mut [u16]) -> u8
 // to the next place of the picked ones, and then counted if it joined two groups. After i pairs the m picked ones stand at the front,
 // and from i on the list is as it was.
 fn pick_along(w: usize, labels: &[u16], group: &mut [u16], list: &mut [u16]) -> usize
-    requires { ⌜ (w ≤ 64) × ((L : Land) × Pickable (crossingOf sides w) L (now labels) (now list)) ⌝ }
+    requires { ⌜ (0 < w) × (w ≤ 64) × ((L : Land) × Pickable (crossingOf w) L (now labels) (now list)) ⌝ }
     requires { ⌜ now group ≡ upto 4097 ⌝ }
     ensures { λ r. ⌜
-        ((L : Land) → Pickable (crossingOf sides w) L (now (labels .entry)) (now (list .entry))
-        → Picked (crossingOf sides w) L (now (list .entry)) (now (list .exit)) r)
+        ((L : Land) → Pickable (crossingOf w) L (now (labels .entry)) (now (list .entry))
+        → Picked (crossingOf w) L (now (list .entry)) (now (list .exit)) r)
         ⌝ }
 {
     let mut m = 0;
@@ -62,10 +62,10 @@ fn pick_along(w: usize, labels: &[u16], group: &mut [u16], list: &mut [u16]) -> 
 
 // The pairs of the chosen passes, in their order, at the start of the list. Gives their number.
 fn pick(w: usize, labels: &[u16], list: &mut [u16]) -> usize
-    requires { ⌜ (w ≤ 64) × ((L : Land) × Pickable (crossingOf sides w) L (now labels) (now list)) ⌝ }
+    requires { ⌜ (0 < w) × (w ≤ 64) × ((L : Land) × Pickable (crossingOf w) L (now labels) (now list)) ⌝ }
     ensures { λ r. ⌜
-        ((L : Land) → Pickable (crossingOf sides w) L (now (labels .entry)) (now (list .entry))
-        → Picked (crossingOf sides w) L (now (list .entry)) (now (list .exit)) r)
+        ((L : Land) → Pickable (crossingOf w) L (now (labels .entry)) (now (list .entry))
+        → Picked (crossingOf w) L (now (list .entry)) (now (list .exit)) r)
         ⌝ }
 {
     let mut group = [0u16; 4097];
@@ -73,12 +73,20 @@ fn pick(w: usize, labels: &[u16], list: &mut [u16]) -> usize
     pick_along(w, labels, &mut group, list)
 }
 
-// The pairs of the chosen passes of a tile, in the order of rule 3, at the start of the list. Gives their number.
-pub fn choose_pairs(w: usize, heights: &[u32], labels: &[u16], list: &mut [u16]) -> usize
-    requires { ⌜ ((marks : List ℕ) × Choosable rule4 w (now heights) marks (now labels) (now list)) ⌝ }
-    ensures { λ r. ⌜ PairsChosen rule4 w (now (heights .entry)) (now (labels .entry)) (now (list .entry)) r (now (list .exit)) ⌝ }
+// The pairs of the chosen passes of a tile, in the order of rule 3, at the start of the list. Gives their number. The spare list is work space.
+pub fn choose_pairs(
+    neighbours: Neighbours,
+    w: usize,
+    heights: &[u32],
+    labels: &[u16],
+    list: &mut [u16],
+    spare: &mut [u32],
+) -> usize
+    requires { ⌜ ((marks : List ℕ) × Choosable neighbours w (now heights) marks (now labels) (now list)) ⌝ }
+    requires { ⌜ length (now list) ≤ length (now spare) ⌝ }
+    ensures { λ r. ⌜ PairsChosen neighbours w (now (heights .entry)) (now (labels .entry)) (now (list .entry)) r (now (list .exit)) ⌝ }
 {
-    let count = list_pairs(w, heights, labels, list);
-    sort_pairs(w, heights, &mut list[..count]);
+    let count = list_pairs(neighbours, w, heights, labels, list);
+    sort_pairs(w, heights, &mut list[..count], spare);
     pick(w, labels, &mut list[..count])
 }

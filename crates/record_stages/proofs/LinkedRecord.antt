@@ -15,13 +15,14 @@ use Rattle.record_stages.specs.LinkedRecord.{LinkedRecord}
 use Rattle.rules.specs.Carving.{receivers}
 use Rattle.rules.specs.FirstWays.{basin}
 use Rattle.rules.specs.Ground.{Ground, lifted}
-use Rattle.rules.specs.Land.{Land, land4, rule4}
-use Rattle.rules.specs.Network.{liftedNetwork, liftedNetworkOf}
+use Rattle.rules.specs.Land.{Land, landBy, ruleBy}
+use Rattle.rules.specs.Network.{liftedNetwork, liftedNetworkBy}
 use Rattle.rules.specs.Tile.{tileLand}
 use Rattle.sections.specs.LittleEndian.{numbersAt}
 use Rattle.stages.specs.Linking.{LawfulTile, Linked}
+use Rattle.grid.specs.declared.Neighbours.{Neighbours}
 
-module _ (s : List ℕ) (w h : ℕ) (G : Good (groundIn s w h)) (n : ℕ) (z : n ≡ h * w) where
+module _ (N : Neighbours) (s : List ℕ) (w h : ℕ) (G : Good (groundIn s w h)) (n : ℕ) (z : n ≡ h * w) where
   abbrev g : Ground
   g = groundIn s w h
 
@@ -30,51 +31,51 @@ module _ (s : List ℕ) (w h : ℕ) (G : Good (groundIn s w h)) (n : ℕ) (z : n
   marks = stretch (4 * n) (5 * n - 4 * n) s
 
   module _ (heights : List ℕ) (t : take n heights ≡ map lifted (groundIn s w h .heights)) where
-    pub read-tile : LawfulTile rule4 w (take n heights) (stretch (4 * n) (5 * n - 4 * n) s)
+    pub read-tile : LawfulTile (ruleBy N) w (take n heights) (stretch (4 * n) (5 * n - 4 * n) s)
     read-tile =
-        subst (λ (l : List ℕ). LawfulTile rule4 w l marks) (sym t)
-        (subst (LawfulTile rule4 w (map lifted (g .heights))) (sym (marks-are s w h G n z)) (good-tile g G))
+        subst (λ (l : List ℕ). LawfulTile (ruleBy N) w l marks) (sym t)
+        (subst (LawfulTile (ruleBy N) w (map lifted (g .heights))) (sym (marks-are s w h G n z)) (good-tile g G N))
 
     pub read-full : length (take n heights) ≡ h * w
     read-full = ap length t ∙ lifted-full g G
 
-    pub read-land : tileLand rule4 w (take n heights) (stretch (4 * n) (5 * n - 4 * n) s) ≡ land4 (groundIn s w h)
+    pub read-land : tileLand (ruleBy N) w (take n heights) (stretch (4 * n) (5 * n - 4 * n) s) ≡ landBy N (groundIn s w h)
     read-land =
-        ap (λ (l : List ℕ). tileLand rule4 w l marks) t
-        ∙ ap (tileLand rule4 w (map lifted (g .heights))) (marks-are s w h G n z)
-        ∙ tile-is-land g G
+        ap (λ (l : List ℕ). tileLand (ruleBy N) w l marks) t
+        ∙ ap (tileLand (ruleBy N) w (map lifted (g .heights))) (marks-are s w h G n z)
+        ∙ tile-is-land N g G
 
     -- and the network of the one is that of the other
     pub read-network :
-        let L = tileLand rule4 w (take n heights) (stretch (4 * n) (5 * n - 4 * n) s) in
-        liftedNetwork L (numbersAt 2 s (5 * n) n) (receivers L) ≡ liftedNetworkOf (groundIn s w h)
+        let L = tileLand (ruleBy N) w (take n heights) (stretch (4 * n) (5 * n - 4 * n) s) in
+        liftedNetwork L (numbersAt 2 s (5 * n) n) (receivers L) ≡ liftedNetworkBy N (groundIn s w h)
     read-network =
         ap (λ (L : Land). liftedNetwork L (numbersAt 2 s (5 * n) n) (receivers L)) read-land
-        ∙ ap (λ (v : List ℕ). liftedNetwork (land4 g) v (receivers (land4 g))) (water-here s w h G n z)
+        ∙ ap (λ (v : List ℕ). liftedNetwork (landBy N g) v (receivers (landBy N g))) (water-here s w h G n z)
 
     -- its basins, in a list
     pub read-basins : {b : List ℕ} (basins : List ℕ)
-        → b ≡ filled (basin (tileLand rule4 w (take n heights) (stretch (4 * n) (5 * n - 4 * n) s))) (length (take n heights)) basins
-        → b ≡ overwrite (liftedNetworkOf (groundIn s w h) .basins) basins
+        → b ≡ filled (basin (tileLand (ruleBy N) w (take n heights) (stretch (4 * n) (5 * n - 4 * n) s))) (length (take n heights)) basins
+        → b ≡ overwrite (liftedNetworkBy N (groundIn s w h) .basins) basins
     unfolding liftedNetwork filled
     read-basins {b} basins e = subst (λ (L : Land). b ≡ filled (basin L) (L .cells) basins) read-land e
 
     -- links of the tile are links of the record
-    pub linked-record : {links : List ℕ} → Linked rule4 w (take n heights) (stretch (4 * n) (5 * n - 4 * n) s) links → LinkedRecord s w h heights links
+    pub linked-record : {links : List ℕ} → Linked (ruleBy N) w (take n heights) (stretch (4 * n) (5 * n - 4 * n) s) links → LinkedRecord N s w h heights links
     linked-record {links} K =
         record {
           heights-are = subst (λ (k : ℕ). take k heights ≡ map lifted (g .heights)) z t;
           linked =
-              subst (λ (l : List ℕ). Linked rule4 w (map lifted (g .heights)) l links) (marks-are s w h G n z)
-              (subst (λ (l : List ℕ). Linked rule4 w l marks links) t K);
+              subst (λ (l : List ℕ). Linked (ruleBy N) w (map lifted (g .heights)) l links) (marks-are s w h G n z)
+              (subst (λ (l : List ℕ). Linked (ruleBy N) w l marks links) t K);
         }
 
   -- and back
-  module _ {heights links : List ℕ} (R : LinkedRecord s w h heights links) where
+  module _ {heights links : List ℕ} (R : LinkedRecord N s w h heights links) where
     pub heights-here : take n heights ≡ map lifted (groundIn s w h .heights)
     heights-here = subst (λ (k : ℕ). take k heights ≡ map lifted (g .heights)) (sym z) (R .heights-are)
 
-    pub linked-here : Linked rule4 w (take n heights) (stretch (4 * n) (5 * n - 4 * n) s) links
+    pub linked-here : Linked (ruleBy N) w (take n heights) (stretch (4 * n) (5 * n - 4 * n) s) links
     linked-here =
-        subst (λ (l : List ℕ). Linked rule4 w l marks links) (sym heights-here)
-        (subst (λ (l : List ℕ). Linked rule4 w (map lifted (g .heights)) l links) (sym (marks-are s w h G n z)) (R .linked))
+        subst (λ (l : List ℕ). Linked (ruleBy N) w l marks links) (sym heights-here)
+        (subst (λ (l : List ℕ). Linked (ruleBy N) w (map lifted (g .heights)) l links) (sym (marks-are s w h G n z)) (R .linked))

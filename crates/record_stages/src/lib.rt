@@ -11,6 +11,7 @@ ghost use Rattle.record_stages.specs.Readable.{Readable};
 ghost use Rattle.record_stages.specs.WalkedRecord.{RecordWalked};
 ghost use Rattle.walk.specs.Walk.{lent, LentHolds};
 use drainage::drain_section;
+use grid::Neighbours;
 use stages::link_cells;
 use walk::walk_links;
 
@@ -27,6 +28,7 @@ pub fn lift_record(bytes: &[u8], n: usize, out: &mut [u32])
 // The heights of the ground in a record of width by height cells, lifted, its basins, and the links of its network. Work space: that
 // of the stages.
 pub fn link_record(
+    neighbours: Neighbours,
     bytes: &[u8],
     width: u16,
     height: u16,
@@ -36,10 +38,10 @@ pub fn link_record(
 )
     requires { ⌜ Readable (now bytes) width height ⌝ }
     requires { ⌜
-        (height * width ≤ length (now lifted)) × (height * width ≤ length (now basins)) × (length (now links) ≡ 4224)
+        (height * width ≤ length (now lifted)) × (height * width ≤ length (now basins)) × (length (now links) ≡ 4226)
         ⌝ }
     ensures { λ _. ⌜
-        RecordLinked (now (bytes .entry)) width height (now (basins .entry)) (now (lifted .exit)) (now (basins .exit)) (now (links .exit))
+        RecordLinked neighbours (now (bytes .entry)) width height (now (basins .entry)) (now (lifted .exit)) (now (basins .exit)) (now (links .exit))
         ⌝ }
 {
     let n = ground::cells(width, height);
@@ -47,12 +49,13 @@ pub fn link_record(
     let from = 4 * n;
     let to = 5 * n;
     lift_record(bytes, n, lifted);
-    link_cells(w, &lifted[..n], &bytes[from..to], basins, links);
+    link_cells(neighbours, w, &lifted[..n], &bytes[from..to], basins, links);
 }
 
 // The network of a record whose cells are linked, levels lifted, but for its basins. The list that drainage is to stand in is the
 // walk's work space.
 pub fn walk_record(
+    neighbours: Neighbours,
     bytes: &[u8],
     width: u16,
     height: u16,
@@ -65,18 +68,19 @@ pub fn walk_record(
     wet: &mut [u8],
 )
     requires { ⌜ Readable (now bytes) width height ⌝ }
-    requires { ⌜ LinkedRecord (now bytes) width height (now lifted) (now links) ⌝ }
+    requires { ⌜ LinkedRecord neighbours (now bytes) width height (now lifted) (now links) ⌝ }
     requires { ⌜ LentHolds (height * width) (lent (now drainage) (now order) (now receivers) (now levels) (now wet)) ⌝ }
     ensures { λ _.
         let before = lent (now (drainage .entry)) (now (order .entry)) (now (receivers .entry)) (now (levels .entry)) (now (wet .entry)) in
         let after = lent (now (drainage .exit)) (now (order .exit)) (now (receivers .exit)) (now (levels .exit)) (now (wet .exit)) in
-        ⌜ RecordWalked (now (bytes .entry)) width height before after ⌝ }
+        ⌜ RecordWalked neighbours (now (bytes .entry)) width height before after ⌝ }
 {
     let n = ground::cells(width, height);
     let w = width as usize;
     let from = 4 * n;
     let to = 5 * n;
     walk_links(
+        neighbours,
         w,
         &lifted[..n],
         &bytes[from..to],

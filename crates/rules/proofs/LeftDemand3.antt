@@ -9,29 +9,30 @@ use Rattle.rules.proofs.NetworkDrains.{network-drains}
 use Rattle.rules.proofs.Traces.{trace-reaches, trace-same}
 use Rattle.rules.specs.Demand3.{Demand3}
 use Rattle.rules.specs.Ground.{cellsOf, Drainable, Ground}
-use Rattle.rules.specs.Land.{land4}
+use Rattle.rules.specs.Land.{landBy}
 use Rattle.rules.specs.Left.{LeftDemand3}
 use Rattle.rules.specs.LeftTrace.{LeftTraced}
-use Rattle.rules.specs.Network.{liftedNetwork, Network, network, networkOf}
+use Rattle.rules.specs.Network.{liftedNetwork, Network, networkBy, networkOf}
 use Rattle.rules.specs.SixLists.{firstOf}
 use Rattle.rules.specs.Way.{Drains}
+use Rattle.grid.specs.declared.Neighbours.{Neighbours}
 
-pub left-demand-3 : (g : Ground) → Drainable g → (s : Network ℤ) → firstOf (cellsOf g) s ≡ network g → LeftDemand3 g s
-unfolding network networkOf liftedNetwork
-left-demand-3 g o s e =
-    let r : take (cellsOf g) (s .receivers) ≡ network g .receivers = ap (λ (t : Network ℤ). t .receivers) e in
-    let lists : firstOf (cellsOf g) s ≡ networkOf (land4 g) (g .water) (take (cellsOf g) (s .receivers)) =
-    e ∙ ap (networkOf (land4 g) (g .water)) (sym r) in
+pub left-demand-3 : (N : Neighbours) (g : Ground) → Drainable g → (s : Network ℤ) → firstOf (cellsOf g) s ≡ networkBy N g → LeftDemand3 N g s
+unfolding networkBy networkOf liftedNetwork
+left-demand-3 N g o s e =
+    let r : take (cellsOf g) (s .receivers) ≡ networkBy N g .receivers = ap (λ (t : Network ℤ). t .receivers) e in
+    let lists : firstOf (cellsOf g) s ≡ networkOf (landBy N g) (g .water) (take (cellsOf g) (s .receivers)) =
+    e ∙ ap (networkOf (landBy N g) (g .water)) (sym r) in
     record {
-      demands = subst (Demand3 (land4 g) (g .water)) (sym r) (tile-demand-3 g o);
+      demands = subst (Demand3 (landBy N g) (g .water)) (sym r) (tile-demand-3 N g o);
       levels-left = ap (λ (t : Network ℤ). t .levels) lists;
       drainage-left = ap (λ (t : Network ℤ). t .drainage) lists;
-      drains = subst (Drains (land4 g)) (sym r) (network-drains g o);
+      drains = subst (Drains (landBy N g)) (sym r) (network-drains N g o);
     }
 
 -- the receivers of such lists, N at most 4,096, traced from each cell: the outlet and the steps are those of demand 3
-pub left-traced : (g : Ground) (s : Network ℤ) → LeftDemand3 g s → cellsOf g ≤ 4096 → LeftTraced g s
-left-traced g s D few =
+pub left-traced : (N : Neighbours) (g : Ground) (s : Network ℤ) → LeftDemand3 N g s → cellsOf g ≤ 4096 → LeftTraced N g s
+left-traced N g s D few =
     record {
       traced = λ c h.
           let F = D .demands .followed c h refl in
@@ -40,7 +41,7 @@ left-traced g s D few =
             steps = F .steps;
             few-steps = F .few-steps;
             outlet-reached = F .outlet-reached;
-            reaches = trace-reaches (land4 g) r (D .drains) few c h refl (F .way);
-            same = trace-same (land4 g) r (D .drains) few c h refl;
+            reaches = trace-reaches (landBy N g) r (D .drains) few c h refl (F .way);
+            same = trace-same (landBy N g) r (D .drains) few c h refl;
           };
     }

@@ -10,7 +10,7 @@ use native.Mathlib.Omega.{arith}
 use lib.ListN.{length}
 use borrow.Author.Tests.{eq-eqb, eqb-true, not-true}
 use Rattle.grid.specs.Masks.{maskOf, Masks}
-use Rattle.grid.specs.Window.{IsRule}
+use Rattle.grid.specs.Window.{around, IsRule}
 use Rattle.lists.proofs.Tab.{tab-at, tab-length}
 use Rattle.lists.proofs.Tests.{and-both, and-left, and-right, or-cases, or-left, or-right, so-not}
 use Rattle.lists.specs.Lists.{tab}
@@ -53,7 +53,7 @@ module _ (L : Land) (W : Lawful L) where
 -- masks that say the links of a lawful tile
 pub network-linkage : (R : Rule) → IsRule (R .places) → (w : ℕ) (heights marks : List ℕ) → Tile w heights marks
     → Lawful (tileLand R w heights marks) → (links : List ℕ) → length heights ≤ length links
-    → Masks (R .places) w (length heights) (receivesEither (tileLand R w heights marks) (receivers (tileLand R w heights marks))) links
+    → Masks around w (length heights) (receivesEither (tileLand R w heights marks) (receivers (tileLand R w heights marks))) links
     → Linkage R w heights marks links (receivers (tileLand R w heights marks))
 network-linkage R I w heights marks T W links fits M =
     record {
@@ -76,7 +76,7 @@ linkage-exists R I w heights marks T W =
     n = length heights
 
     mask : ℕ → ℕ
-    mask = maskOf (R .places) w n (receivesEither (tileLand R w heights marks) (receivers (tileLand R w heights marks)))
+    mask = maskOf around w n (receivesEither (tileLand R w heights marks) (receivers (tileLand R w heights marks)))
 
     masks : List ℕ
     masks = tab n mask

@@ -2,7 +2,7 @@
 -- Assumes nothing.
 use mathlib.Core.Bool.{true}
 use mathlib.Core.Logic.{inl, inr, _⊎_}
-use mathlib.Core.Path.{ap, subst, sym, _∙_, _≡_}
+use mathlib.Core.Path.{ap, refl, subst, sym, _∙_, _≡_}
 use Prim.Native.Nat.{max, min, suc, zero, ℕ, _+_, _-_, _<_, _≤_}
 use native.Mathlib.Omega.{arith}
 use Rattle.lists.proofs.Keep.{keep-holds}
@@ -139,3 +139,44 @@ module _ (L : Land) (both : (a b : ℕ) → L .beside a b ≡ true → L .beside
               let e : min (c i) (c (suc i)) ≡ c (suc i) = omega arith in
               let f : max (c i) (c (suc i)) ≡ c i = omega arith in
               chosen-apart L (ringPair i) m (here (ap (node L) e) then (rest then here (ap (node L) (sym f))))
+
+  -- a triangle of neighbours: a pair that is greater than the other two, as far as they lie in different nodes, is no chosen pass
+  module _ (x y z : ℕ) (on-x : x < L .cells) (on-y : y < L .cells) (on-z : z < L .cells)
+      (xy : L .beside x y ≡ true) (yz : L .beside y z ≡ true) (zx : L .beside z x ≡ true) where
+    abbrev inTurn : ℕ → ℕ
+    inTurn zero = x
+    inTurn (suc zero) = y
+    inTurn (suc (suc zero)) = z
+    inTurn (suc (suc (suc j))) = x
+
+    triangle : Ring inTurn 2
+    triangle = record { closed = refl; on = on-each; next = next-each }
+      where
+        on-each : (j : ℕ) → j ≤ 2 → inTurn j < L .cells
+        on-each zero h = on-x
+        on-each (suc zero) h = on-y
+        on-each (suc (suc zero)) h = on-z
+        on-each (suc (suc (suc j))) h = absurd (omega arith)
+
+        next-each : (j : ℕ) → j ≤ 2 → L .beside (inTurn j) (inTurn (suc j)) ≡ true
+        next-each zero h = xy
+        next-each (suc zero) h = yz
+        next-each (suc (suc zero)) h = zx
+        next-each (suc (suc (suc j))) h = absurd (omega arith)
+
+    pub triangle-greatest : ((node L y ≡ node L z → ⊥) → less L (pairOf y z) (pairOf x y) ≡ true)
+        → ((node L x ≡ node L z → ⊥) → less L (pairOf x z) (pairOf x y) ≡ true) → pairOf x y ∈ chosen L → ⊥
+    triangle-greatest f g = ring-greatest inTurn 2 triangle 0 (omega arith) greatest
+      where
+        turned-pair : pairOf z x ≡ pairOf x z
+        turned-pair =
+            let e : min z x ≡ min x z = omega arith in
+            let h : max z x ≡ max x z = omega arith in
+            λ i. record { lesser = e i; greater = h i }
+
+        greatest : (j : ℕ) → j ≤ 2 → (j ≡ 0 → ⊥) → (node L (inTurn j) ≡ node L (inTurn (suc j)) → ⊥)
+            → less L (pairOf (inTurn j) (inTurn (suc j))) (pairOf x y) ≡ true
+        greatest zero h n d = absurd (n refl)
+        greatest (suc zero) h n d = f d
+        greatest (suc (suc zero)) h n d = subst (λ (p : Crossing). less L p (pairOf x y) ≡ true) (sym turned-pair) (g (λ e. d (sym e)))
+        greatest (suc (suc (suc j))) h n d = absurd (omega arith)

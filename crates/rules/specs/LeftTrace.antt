@@ -9,9 +9,10 @@ use lib.ListN.{length, take}
 use Rattle.lists.specs.Lists.{at, repeat}
 use Rattle.rules.specs.Demand3.{innerCells}
 use Rattle.rules.specs.Ground.{cellsOf, Ground}
-use Rattle.rules.specs.Land.{Land, land4}
+use Rattle.rules.specs.Land.{Land, landBy}
 use Rattle.rules.specs.Network.{Network}
 use Rattle.rules.specs.Trace.{reached, trace}
+use Rattle.grid.specs.declared.Neighbours.{Neighbours}
 
 -- the way from c along r is to an outlet, in at most as many steps as there are cells that aren't outlets. Every budget of at least that many
 -- gives this outlet and these steps, and any two such budgets the same answer
@@ -23,5 +24,5 @@ pub record TracedOut (L : Land) (r : List ℕ) (c : ℕ) : Type 0 where
   pub same : (budget larger : ℕ) → length (innerCells L) ≤ budget → length (innerCells L) ≤ larger → trace r c budget ≡ trace r c larger
 
 -- so it is from every cell along the first N receivers
-pub record LeftTraced (g : Ground) (s : Network ℤ) : Type 0 where
-  pub traced : (c : ℕ) → c < cellsOf g → TracedOut (land4 g) (take (cellsOf g) (s .receivers)) c
+pub record LeftTraced (N : Neighbours) (g : Ground) (s : Network ℤ) : Type 0 where
+  pub traced : (c : ℕ) → c < cellsOf g → TracedOut (landBy N g) (take (cellsOf g) (s .receivers)) c

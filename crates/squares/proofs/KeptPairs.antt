@@ -1,92 +1,87 @@
--- The pairs that are kept, as a list: where they stand, which sides of squares they are, and that they ascend.
+-- The pairs that are kept, by the flags: a cell's flag tells which of its pairs are, of those that are asked for; and they ascend.
 -- Assumes nothing.
-use mathlib.Core.Bool.{Bool, cond, false, true}
+use mathlib.Core.Bool.{Bool, cond, false, true, _&&_}
 use mathlib.Core.List.{List}
-use mathlib.Core.Path.{ap, refl, _≡_}
-use Prim.Native.Nat.{suc, zero, ℕ, _%_, _*_, _+_, _/_, _<_}
+use mathlib.Core.Path.{_≡_}
+use Prim.Native.Nat.{suc, zero, ℕ, _%_, _*_, _+_, _/_, _<_, _^_}
 use native.Mathlib.Omega.{arith}
 use lib.Arith.{digits-div, digits-mod}
 use lib.Dec.{eqb}
 use lib.ListN.{length}
-use Rattle.grid.proofs.Sides.{below-stands, right-stands}
-use Rattle.grid.specs.Window.{Rows, sides, Stands}
+use Rattle.grid.specs.Neighbours.{placesBy}
 use Rattle.lists.proofs.Keep.{keep-holds, keep-same}
 use Rattle.lists.proofs.Range.{upto-holds}
 use Rattle.lists.proofs.Rising.{rising-ascends, rising-keep, rising-range}
+use Rattle.lists.proofs.Tests.{cond-small, cond-times}
 use Rattle.lists.specs.Ascending.{Ascending}
-use Rattle.lists.specs.Lists.{at, keep, upto, _∈_}
-use Rattle.pairs.specs.Pairs.{later}
-use Rattle.squares.proofs.SideKeys.{pair, sidePair}
-use Rattle.squares.specs.declared.Side.{Side}
-use Rattle.squares.specs.Squares.{bitAt, flag, flagged, keeps, margined, pairsOf, sideAt, squareAt}
+use Rattle.lists.specs.Lists.{any, keep, upto, _∈_}
+use Rattle.squares.proofs.SquareKeys.{bit-tells}
+use Rattle.squares.specs.Squares.{flagBy, flagged, hasBit, keeps, margined, pairsOf, sideAt, squareAt}
+use Rattle.grid.specs.declared.Neighbours.{Neighbours}
+use Rattle.grid.specs.declared.Neighbours.the-variants.{Eight, Four}
 
--- the pairs of number i: where they stand, and which sides of two squares they are
-pub record Lies (w n i : ℕ) (S : Side) : Type 0 where
-  pub here : S .here ≡ i
-  pub inner : (0 < S .there) × (S .there < 4)
-  pub far : 0 < S .on
-  pub stands : (c : ℕ) → c + S .on < n → (i ≡ 0 → c % w + 1 < w) → Stands w n c (at (later sides) i) (c + S .on)
-  pub here-is : (c : ℕ) → sidePair w c i ≡ pair c (c + S .on)
-  pub there-is : (c : ℕ) → sidePair w c (S .there) ≡ pair (c + S .back) (c + S .back + S .on)
+-- what holds of each number below 4
+pub each-four : (P : ℕ → Type 0) → P 0 → P 1 → P 2 → P 3 → (i : ℕ) → i < 4 → P i
+each-four P a b c d zero h = a
+each-four P a b c d (suc zero) h = b
+each-four P a b c d (suc (suc zero)) h = c
+each-four P a b c d (suc (suc (suc zero))) h = d
+each-four P a b c d (suc (suc (suc (suc i)))) h = absurd (omega arith)
 
-pub side-lies : {w n : ℕ} → Rows w n → (i : ℕ) → i < 2 → Lies w n i (sideAt w i)
-side-lies G zero h =
-    record {
-      here = refl;
-      inner = (omega arith, omega arith);
-      far = omega arith;
-      stands = λ c k col. right-stands G (omega arith) (col refl);
-      here-is = λ c. refl;
-      there-is = λ c. refl;
-    }
-side-lies {w} G (suc zero) h =
-    record {
-      here = refl;
-      inner = (omega arith, omega arith);
-      far = G .wide;
-      stands = λ c k col. below-stands G (omega arith) k;
-      here-is = λ c. refl;
-      there-is = λ c. ap (pair (c + 1)) (let e : c + w + 1 ≡ c + 1 + w = omega arith in e);
-    }
-side-lies G (suc (suc i)) h = absurd (omega arith)
+-- a flag of four bits tells the test of each
+module _ (a b c d : Bool) (m : ℕ) (e : m ≡ cond a 1 0 + cond b 2 0 + cond c 4 0 + cond d 8 0) where
+  four-bits : (hasBit m 1 ≡ a) × (hasBit m 2 ≡ b) × (hasBit m 4 ≡ c) × (hasBit m 8 ≡ d)
+  four-bits =
+      let sa = cond-small a in let sb = cond-small b in let sc = cond-small c in let sd = cond-small d in
+      let tb = cond-times b 2 in let tc = cond-times c 4 in let td = cond-times d 8 in
+      let h2 : ℕ = cond c 1 0 + 2 * cond d 1 0 in (
+        bit-tells m 1 a (cond b 1 0 + 2 * h2) (omega arith),
+        bit-tells m 2 b h2 (omega arith),
+        bit-tells m 4 c (cond d 1 0) (omega arith),
+        bit-tells m 8 d 0 (omega arith),
+      )
 
--- both bits can be told
-bits-told : (r b : Bool) → (eqb ((cond r 1 0 + cond b 2 0) % 2) 1 ≡ r) × (eqb ((cond r 1 0 + cond b 2 0) / 2) 1 ≡ b)
-bits-told true true = (refl, refl)
-bits-told true false = (refl, refl)
-bits-told false true = (refl, refl)
-bits-told false false = (refl, refl)
-
-module _ (w : ℕ) (heights labels : List ℕ) where
+module _ (N : Neighbours) (w : ℕ) (heights labels : List ℕ) where
   -- the squares of the tile, after their margin
   abbrev pub tileSquares : ℕ → ℕ
-  tileSquares = margined (squareAt w heights labels)
+  tileSquares = margined (squareAt N w heights labels)
+
+  -- the neighbours asked for have pairs of number i
+  abbrev pub asked : ℕ → Bool
+  asked i = any (eqb (5 + i)) (placesBy N)
 
   -- the pair of number i of cell c is kept
   abbrev pub keptAt : (i c : ℕ) → Bool
-  keptAt i c = keeps (sideAt w i) (length heights) labels tileSquares c
+  keptAt i c = asked i && keeps (sideAt w i) (length heights) labels tileSquares c
 
   abbrev pub keptPairs : List ℕ
-  keptPairs = keep (λ p. keptAt (p % 2) (p / 2)) (upto (2 * length heights))
+  keptPairs = keep (λ p. keptAt (p % 4) (p / 4)) (upto (4 * length heights))
 
-  -- the flag of a cell: both its bits
   abbrev pub flagOf : ℕ → ℕ
-  flagOf c = flag (sideAt w 0) (length heights) labels tileSquares c + flag (sideAt w 1) (length heights) labels tileSquares c
+  flagOf c = flagBy N w (length heights) labels tileSquares c
 
-  pub pairs-kept : pairsOf (length heights) flagOf ≡ keptPairs
-  unfolding pairsOf
-  pairs-kept =
-      keep-same (flagged flagOf) (λ p. keptAt (p % 2) (p / 2)) (upto (2 * length heights)) (λ p m. told (p % 2) (p / 2) (omega arith))
-    where
-      told : (i c : ℕ) → i < 2 → eqb (bitAt i (flagOf c)) 1 ≡ keptAt i c
-      told zero c h = bits-told (keptAt 0 c) (keptAt 1 c) .0
-      told (suc zero) c h = bits-told (keptAt 0 c) (keptAt 1 c) .1
-      told (suc (suc i)) c h = absurd (omega arith)
-
-  pub kept-pair : (i c : ℕ) → i < 2 → c < length heights → keptAt i c ≡ true → c * 2 + i ∈ keptPairs
-  kept-pair i c h k t = keep-holds (λ p. keptAt (p % 2) (p / 2)) (upto-holds {n = 2 * length heights} (omega arith)) (rw (digits-mod c h, digits-div c h) t)
+  pub kept-pair : (i c : ℕ) → i < 4 → c < length heights → keptAt i c ≡ true → c * 4 + i ∈ keptPairs
+  kept-pair i c h k t = keep-holds (λ p. keptAt (p % 4) (p / 4)) (upto-holds {n = 4 * length heights} (omega arith)) (rw (digits-mod c h, digits-div c h) t)
 
   pub pairs-ascend : Ascending keptPairs
   pairs-ascend =
       rising-ascends (λ p. p) keptPairs
-      (rising-keep (λ p. p) (λ p. p) (λ p. keptAt (p % 2) (p / 2)) (λ x y s t l. l) (rising-range (2 * length heights) 0))
+      (rising-keep (λ p. p) (λ p. p) (λ p. keptAt (p % 4) (p / 4)) (λ x y s t l. l) (rising-range (4 * length heights) 0))
+
+-- a flag's bit says whether its pair is kept
+flag-told : (N : Neighbours) (w : ℕ) (heights labels : List ℕ) (c i : ℕ) → i < 4
+    → hasBit (flagOf N w heights labels c) (2 ^ i) ≡ keptAt N w heights labels i c
+flag-told Four w heights labels c =
+    let k : ℕ → Bool = λ i. keeps (sideAt w i) (length heights) labels (tileSquares Four w heights labels) c in
+    let B = four-bits (k 0) false (k 2) false (flagOf Four w heights labels c) (omega arith) in
+    each-four (λ i. hasBit (flagOf Four w heights labels c) (2 ^ i) ≡ keptAt Four w heights labels i c) (B .0) (B .1) (B .2) (B .3)
+flag-told Eight w heights labels c =
+    let k : ℕ → Bool = λ i. keeps (sideAt w i) (length heights) labels (tileSquares Eight w heights labels) c in
+    let B = four-bits (k 0) (k 1) (k 2) (k 3) (flagOf Eight w heights labels c) (omega arith) in
+    each-four (λ i. hasBit (flagOf Eight w heights labels c) (2 ^ i) ≡ keptAt Eight w heights labels i c) (B .0) (B .1) (B .2) (B .3)
+
+pub pairs-kept : (N : Neighbours) (w : ℕ) (heights labels : List ℕ) → pairsOf (length heights) (flagOf N w heights labels) ≡ keptPairs N w heights labels
+unfolding pairsOf
+pairs-kept N w heights labels =
+    keep-same (flagged (flagOf N w heights labels)) (λ p. keptAt N w heights labels (p % 4) (p / 4)) (upto (4 * length heights))
+    (λ p m. flag-told N w heights labels (p / 4) (p % 4) (omega arith))

@@ -1,7 +1,9 @@
-pub mod SideKeys
+pub mod SquareKeys
+pub mod LeftOut
 pub mod KeptPairs
+pub mod InSquares
 pub mod Sufficing
 pub mod Flags
-pub mod RowEnds
 pub mod Packing
+pub mod RowEnds
 pub mod Listing

@@ -1,17 +1,17 @@
--- What the parts of the listing give together: the squares, the flags of both sides, and the pairs.
+-- What the parts of the listing give together: the squares, the flags, and the pairs.
 -- Assumes nothing.
 use mathlib.Core.List.{List, map, _++_}
 use mathlib.Core.Logic.{inl, inr, _⊎_}
 use mathlib.Core.Path.{ap, subst, sym, _∙_, _≡_}
 use Prim.Native.Nat.{ℕ, _%_, _*_, _+_, _-_, _/_, _<_, _≤_}
-use native.Mathlib.Nat.{add-mod-right, zero-add}
+use native.Mathlib.Nat.{add-mod-right}
 use native.Mathlib.Omega.{arith}
 use lib.Dec.{eqb}
 use lib.ListN.{drop, length, List·getD-append, take}
 use lib.Seq.{getD-append-add, getD-drop, getD-take, length-take-le}
 use borrow.Author.Tests.{le-ltb, lt-ltb}
 use Rattle.grid.proofs.Rows.{right-on}
-use Rattle.grid.specs.Window.{Grid, sides}
+use Rattle.grid.specs.Window.{Grid}
 use Rattle.lists.proofs.Filled.{filled-at, filled-by, filled-length}
 use Rattle.lists.proofs.Keep.{keep-same}
 use Rattle.lists.proofs.Range.{upto-below}
@@ -22,38 +22,39 @@ use Rattle.lists.specs.Lists.{at, filled, stretch, upto}
 use Rattle.lists.specs.Stores.{Packs, Puts}
 use Rattle.pairs.specs.Pairs.{crossingOf, Pairs}
 use Rattle.rules.specs.Enough.{Suffices}
-use Rattle.rules.specs.Land.{rule4}
+use Rattle.rules.specs.Land.{ruleBy}
 use Rattle.rules.specs.Tile.{tileLand}
-use Rattle.squares.proofs.Flags.{flag-added, flag-most, flag-same}
+use Rattle.squares.proofs.Flags.{flags-asked, flags-same}
 use Rattle.squares.proofs.KeptPairs.{flagOf, keptPairs, pairs-ascend, pairs-kept, tileSquares}
 use Rattle.squares.proofs.Sufficing.{pairs-neighbours, pairs-suffice}
-use Rattle.squares.specs.Listing.{Listed}
-use Rattle.squares.specs.Squares.{bitAt, Ends, flag, flagged, greatestSide, pairsOf, sideAt, squareAt}
+use Rattle.squares.specs.Listing.{Listed, pairsFor}
+use Rattle.squares.specs.Squares.{bitAt, Ends, FlagAsked, flagBy, flagged, pairsOf, square, squareAt}
+use Rattle.grid.specs.declared.Neighbours.{Neighbours}
 
-module _ (w : ℕ) (heights labels : List ℕ) where
+module _ (N : Neighbours) (w : ℕ) (heights labels : List ℕ) where
   abbrev n : ℕ
   n = length heights
 
   -- the squares are all there: first those of all rows but the last, then the ends of the rows
-  pub squares-filled : Grid w (length heights) → {s₀ s₁ s₂ : List ℕ} → n ≤ length s₀ → ((k : ℕ) → k < n → at s₀ k ≡ 4)
-      → Puts (greatestSide w heights labels) 0 (n - (w + 1)) s₀ s₁ → Ends w n s₁ s₂ → s₂ ≡ filled (squareAt w heights labels) n s₀
+  pub squares-filled : Grid w (length heights) → {s₀ s₁ s₂ : List ℕ} → n ≤ length s₀ → ((k : ℕ) → k < n → at s₀ k ≡ 8)
+      → Puts (square N w heights labels) 0 (n - (w + 1)) s₀ s₁ → Ends w n s₁ s₂ → s₂ ≡ filled (squareAt N w heights labels) n s₀
   unfolding squareAt
-  squares-filled G {s₀} {s₁} {s₂} room fours A E =
-      filled-by (squareAt w heights labels) n s₀ s₂ room (E .long ∙ A .long)
+  squares-filled G {s₀} {s₁} {s₂} room eights A E =
+      filled-by (squareAt N w heights labels) n s₀ s₂ room (E .long ∙ A .long)
       (λ k h. go k h (lt-or-ge (k % w + 1) w) (lt-or-ge (k + w) n))
       (λ k h. E .rest k (inl h) ∙ A .outside k (inr (omega arith)))
     where
-      go : (k : ℕ) → k < n → (k % w + 1 < w) ⊎ (w ≤ k % w + 1) → (k + w < n) ⊎ (n ≤ k + w) → at s₂ k ≡ squareAt w heights labels k
+      go : (k : ℕ) → k < n → (k % w + 1 < w) ⊎ (w ≤ k % w + 1) → (k + w < n) ⊎ (n ≤ k + w) → at s₂ k ≡ squareAt N w heights labels k
       go k h (inl c) (inl l) =
           let d : (k + w) % w + 1 < w = subst (λ (m : ℕ). m + 1 < w) (sym (add-mod-right k w)) c in
           let o : k + w + 1 < n = right-on n w (k + w) (G .rows .whole) l d in
           E .rest k (inr c) ∙ A .inside k (omega arith) (omega arith) ∙ rw (lt-ltb (k % w + 1) w c, lt-ltb (k + w) n l)
       go k h (inl c) (inr l) =
-          E .rest k (inr c) ∙ A .outside k (inr (omega arith)) ∙ fours k h ∙ rw (lt-ltb (k % w + 1) w c, le-ltb (k + w) n l)
+          E .rest k (inr c) ∙ A .outside k (inr (omega arith)) ∙ eights k h ∙ rw (lt-ltb (k % w + 1) w c, le-ltb (k + w) n l)
       go k h (inr c) l = E .last k h c ∙ rw (le-ltb (k % w + 1) w c)
 
-  -- the part of a list after its margin: all 4s, and then the squares; the margin is as it was
-  module _ (l : List ℕ) (room : n + 64 ≤ length l) (fours : (i : ℕ) → i < n + 64 → at l i ≡ 4) where
+  -- the part of a list after its margin: all 8s, and then the squares; the margin is as it was
+  module _ (l : List ℕ) (room : n + 64 ≤ length l) (eights : (i : ℕ) → i < n + 64 → at l i ≡ 8) where
     abbrev part : List ℕ
     part = stretch 64 (length l - 64) l
 
@@ -63,79 +64,63 @@ module _ (w : ℕ) (heights labels : List ℕ) where
     pub part-room : n ≤ length part
     part-room = omega (arith, part-long)
 
-    pub part-fours : (k : ℕ) → k < n → at part k ≡ 4
-    part-fours k h = getD-take (length l - 64) (drop 64 l) k 0 (omega arith) ∙ getD-drop 64 l k 0 ∙ fours (64 + k) (omega arith)
+    pub part-eights : (k : ℕ) → k < n → at part k ≡ 8
+    part-eights k h = getD-take (length l - 64) (drop 64 l) k 0 (omega arith) ∙ getD-drop 64 l k 0 ∙ eights (64 + k) (omega arith)
 
-    pub squares-margined : {p : List ℕ} (rest : List ℕ) → p ≡ filled (squareAt w heights labels) n part
-        → (i : ℕ) → i < n + 64 → at (take 64 l ++ (p ++ rest)) i ≡ tileSquares w heights labels i
+    pub squares-margined : {p : List ℕ} (rest : List ℕ) → p ≡ filled (squareAt N w heights labels) n part
+        → (i : ℕ) → i < n + 64 → at (take 64 l ++ (p ++ rest)) i ≡ tileSquares N w heights labels i
     squares-margined {p} rest f i h = go (lt-or-ge i 64)
       where
         margin : length (take 64 l) ≡ 64
         margin = length-take-le 64 l (omega arith)
 
         long : length p ≡ length l - 64
-        long = ap length f ∙ filled-length (squareAt w heights labels) n part part-room ∙ part-long
+        long = ap length f ∙ filled-length (squareAt N w heights labels) n part part-room ∙ part-long
 
-        go : (i < 64) ⊎ (64 ≤ i) → at (take 64 l ++ (p ++ rest)) i ≡ tileSquares w heights labels i
+        go : (i < 64) ⊎ (64 ≤ i) → at (take 64 l ++ (p ++ rest)) i ≡ tileSquares N w heights labels i
         go (inl b) =
-            List·getD-append (take 64 l) (p ++ rest) 0 i (omega (arith, margin)) ∙ getD-take 64 l i 0 b ∙ fours i h ∙ rw (lt-ltb i 64 b)
+            List·getD-append (take 64 l) (p ++ rest) 0 i (omega (arith, margin)) ∙ getD-take 64 l i 0 b ∙ eights i h ∙ rw (lt-ltb i 64 b)
         go (inr b) =
             let k : length (take 64 l) + (i - 64) ≡ i = omega (arith, margin) in
             ap (at (take 64 l ++ (p ++ rest))) (sym k)
             ∙ getD-append-add (take 64 l) (p ++ rest) (i - 64) 0
             ∙ List·getD-append p rest 0 (i - 64) (omega (arith, long))
             ∙ ap (λ (z : List ℕ). at z (i - 64)) f
-            ∙ filled-at (squareAt w heights labels) n part (i - 64) (omega arith)
+            ∙ filled-at (squareAt N w heights labels) n part (i - 64) (omega arith)
             ∙ rw (le-ltb i 64 b)
 
--- the lists one after the other: squares q after their margin, flags f to the right, all flags g
-module _ (w : ℕ) (heights labels q : List ℕ) {f₀ f : List ℕ}
-    (Q : (i : ℕ) → i < length heights + 64 → at q i ≡ tileSquares w heights labels i) (none : (c : ℕ) → c < length heights → at f₀ c ≡ 0)
-    (F : Puts (λ c. at f₀ c + flag (sideAt w 0) (length heights) labels (at q) c) 0 (length heights - 1) f₀ f) where
+-- the lists one after the other: squares q after their margin, and flags f
+module _ (N : Neighbours) (w : ℕ) (heights labels q f : List ℕ)
+    (Q : (i : ℕ) → i < length heights + 64 → at q i ≡ tileSquares N w heights labels i)
+    (F : (c : ℕ) → c < length heights → at f c ≡ flagBy N w (length heights) labels (at q) c) where
   abbrev m : ℕ
   m = length heights
 
-  abbrev rightFlag : ℕ → ℕ
-  rightFlag = flag (sideAt w 0) (length heights) labels (at q)
+  pub flags-asked-for : (c : ℕ) → c < length heights → FlagAsked N (at f c)
+  flags-asked-for c h = subst (FlagAsked N) (sym (F c h)) (flags-asked N w m labels (at q) c)
 
-  right-at : (c : ℕ) → c < m → at f c ≡ rightFlag c
-  right-at c h = flag-added (sideAt w 0) m labels (at q) c F ∙ ap (λ (z : ℕ). z + rightFlag c) (none c h) ∙ zero-add (rightFlag c)
+  pairs-are : pairsOf m (at f) ≡ keptPairs N w heights labels
+  unfolding pairsOf
+  pairs-are =
+      keep-same (flagged (at f)) (flagged (flagOf N w heights labels)) (upto (4 * m))
+      (λ p i.
+      let h : p < 4 * m = upto-below i in
+      let k : p / 4 < m = omega arith in
+      ap (λ (z : ℕ). eqb (bitAt (p % 4) z) 1) (F (p / 4) k ∙ flags-same N w m labels (at q) (tileSquares N w heights labels) Q (p / 4) k))
+      ∙ pairs-kept N w heights labels
 
-  pub right-small : (c : ℕ) → c < m → at f c ≤ 1
-  right-small c h = omega (arith, right-at c h, flag-most (sideAt w 0) m labels (at q) c)
-
-  module _ {g : List ℕ} (G : Puts (λ c. at f c + flag (sideAt w 1) (length heights) labels (at q) c) 0 (length heights - w) f g) where
-    flag-at : (c : ℕ) → c < m → at g c ≡ flagOf w heights labels c
-    flag-at c h =
-        let squares : ℕ → ℕ = tileSquares w heights labels in
-        flag-added (sideAt w 1) m labels (at q) c G
-        ∙ ap (λ (z : ℕ). z + flag (sideAt w 1) m labels (at q) c) (right-at c h ∙ flag-same (sideAt w 0) m labels (at q) squares Q c h)
-        ∙ ap (λ (z : ℕ). flag (sideAt w 0) m labels squares c + z) (flag-same (sideAt w 1) m labels (at q) squares Q c h)
-
-    pub flags-small : (c : ℕ) → c < m → at g c < 4
-    flags-small c h =
-        let squares : ℕ → ℕ = tileSquares w heights labels in
-        omega (arith, flag-at c h, flag-most (sideAt w 0) m labels squares c, flag-most (sideAt w 1) m labels squares c)
-
-    pairs-are : pairsOf m (at g) ≡ keptPairs w heights labels
-    unfolding pairsOf
-    pairs-are =
-        keep-same (flagged (at g)) (flagged (flagOf w heights labels)) (upto (2 * m))
-        (λ p i. let h : p < 2 * m = upto-below i in ap (λ (z : ℕ). eqb (bitAt (p % 2) z) 1) (flag-at (p / 2) (omega arith)))
-        ∙ pairs-kept w heights labels
-
-    -- the pairs are listed
-    pub listed : Grid w (length heights) → {list′ : List ℕ} {r : ℕ} → Packs (pairsOf m (at g)) list′ r → r ≤ 2 * m
-        → Listed rule4 w heights labels list′ r
-    listed K {list′} {r} P h =
-        record {
-          within = omega arith;
-          neighbours = subst (Pairs sides w m) (sym e) (pairs-neighbours w heights labels (K .rows));
-          ascending = subst Ascending (sym e) (pairs-ascend w heights labels);
-          suffices = λ marks T B.
-              subst (λ (l : List ℕ). Suffices (tileLand rule4 w heights marks) (map (crossingOf sides w) l)) (sym e)
-              (pairs-suffice w heights labels marks T B);
-        }
-      where
-        e : take r list′ ≡ keptPairs w heights labels
-        e = P .first ∙ pairs-are
+  -- the pairs are listed
+  pub listed : Grid w (length heights) → {list′ : List ℕ} {r : ℕ} → Packs (pairsOf m (at f)) list′ r → r ≤ pairsFor N m
+      → Listed N w heights labels list′ r
+  listed K {list′} {r} P h =
+      record {
+        within = h;
+        neighbours = subst (Pairs w m) (sym e) (pairs-neighbours N w heights labels (K .rows .wide));
+        ascending = subst Ascending (sym e) (pairs-ascend N w heights labels);
+        suffices = λ marks T B.
+            subst (λ (l : List ℕ). Suffices (tileLand (ruleBy N) w heights marks) (map (crossingOf w) l)) (sym e)
+            (pairs-suffice N w heights labels marks T B);
+      }
+    where
+      e : take r list′ ≡ keptPairs N w heights labels
+      e = P .first ∙ pairs-are

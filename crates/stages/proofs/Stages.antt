@@ -1,5 +1,5 @@
--- What one stage of the network leaves is what the next one asks for, and what the last one leaves is the network. Over any rule, but for the
--- weights, which are those of document 01's.
+-- What one stage of the network leaves is what the next one asks for, and what the last one leaves is the network. Over any rule, but for
+-- weights and passes, which are those of the neighbours asked for.
 -- Assumes nothing.
 use mathlib.Core.Bool.{Bool}
 use mathlib.Core.List.{List, _++_}
@@ -11,43 +11,44 @@ use lib.Seq.{drop-at, length-take-le}
 use Rattle.basins.specs.Jumps.{FirstReceivers}
 use Rattle.drainage.proofs.Ordered.{ordered-written}
 use Rattle.drainage.specs.Giving.{Ordered}
-use Rattle.first_receivers.proofs.Keys.{weights-weighed}
+use Rattle.first_receivers.proofs.Weighing.{weights-weighed}
 use Rattle.first_receivers.specs.Weights.{firstIs, Weighed}
 use Rattle.grid.specs.Masks.{joined, maskOf}
-use Rattle.grid.specs.Window.{sides}
+use Rattle.grid.specs.Window.{around}
 use Rattle.links.proofs.FromWeights.{weights-leading}
 use Rattle.links.proofs.PairNetwork.{pairs-linkage, tile-addable}
 use Rattle.links.specs.Leads.{Leading}
 use Rattle.links.specs.PairLinks.{Addable, withPairs}
 use Rattle.lists.proofs.Filled.{filled-at, filled-by, filled-length, filled-over, filled-take}
 use Rattle.lists.specs.Lists.{at, filled, tab}
-use Rattle.pairs.specs.Pairs.{mostPairs}
 use Rattle.passes.specs.Choosing.{Choosable, ChosenPairs}
 use Rattle.rules.proofs.SixLists.{sixLists-same}
 use Rattle.rules.specs.Carving.{receivers}
 use Rattle.rules.specs.FirstWays.{basin, firstReceiver}
-use Rattle.rules.specs.Land.{Land, Rule, rule4}
+use Rattle.rules.specs.Land.{Land, Rule, ruleBy}
 use Rattle.rules.specs.Links.{Linkage}
 use Rattle.rules.specs.Network.{drainage, liftedNetwork, order}
 use Rattle.rules.specs.NodeLabels.{labelOf}
 use Rattle.rules.specs.SixLists.{onto, sixLists}
 use Rattle.rules.specs.Tile.{Tile, tileLand}
+use Rattle.squares.specs.Listing.{pairsFor}
 use Rattle.stages.specs.Linking.{LawfulTile, Linkable, Linked}
 use Rattle.walk.proofs.Wholes.{walked-whole}
 use Rattle.walk.specs.Walk.{Lent, Margin, LentHolds, Walked}
+use Rattle.grid.specs.declared.Neighbours.{Neighbours}
 
 -- weights, as first receivers and links ask for them
-module _ (w : ℕ) (heights marks : List ℕ) (T : Tile w heights marks) where
+module _ (N : Neighbours) (w : ℕ) (heights marks : List ℕ) (T : Tile w heights marks) where
   abbrev mask : ℕ → ℕ
-  mask = maskOf sides w (length heights) (firstIs (tileLand rule4 w heights marks))
+  mask = maskOf around w (length heights) (firstIs (tileLand (ruleBy N) w heights marks))
 
   pub weighed : {weights : List ℕ} (old : List ℕ) → weights ≡ filled mask (length heights) old
-      → Weighed w (length heights) heights marks weights
-  weighed {weights} old e = weights-weighed w heights marks T old weights e
+      → Weighed N w (length heights) heights marks weights
+  weighed {weights} old e = weights-weighed N w heights marks T old weights e
 
   pub leading : {weights : List ℕ} (old : List ℕ) → length heights ≤ length weights → weights ≡ filled mask (length heights) old
-      → Leading sides w (length heights) (firstReceiver (tileLand rule4 w heights marks)) weights
-  leading {weights} old room e = weights-leading w heights marks T weights room (weighed old e)
+      → Leading N w (length heights) (firstReceiver (tileLand (ruleBy N) w heights marks)) weights
+  leading {weights} old room e = weights-leading N w heights marks T weights room (weighed old e)
 
 module _ {R : Rule} {w : ℕ} {heights marks : List ℕ} (T : LawfulTile R w heights marks) where
   abbrev land : Land
@@ -57,7 +58,7 @@ module _ {R : Rule} {w : ℕ} {heights marks : List ℕ} (T : LawfulTile R w hei
   n = length heights
 
   abbrev linked : ℕ → ℕ
-  linked = maskOf (R .places) w n (joined (firstReceiver land))
+  linked = maskOf around w n (joined (firstReceiver land))
 
   -- first receivers, as basins ask for them
   pub firsts-are : {b : List ℕ} (basins : List ℕ) → n ≤ length basins → b ≡ filled (firstReceiver land) n basins → FirstReceivers land n b
@@ -84,32 +85,32 @@ module _ {R : Rule} {w : ℕ} {heights marks : List ℕ} (T : LawfulTile R w hei
         masks = λ c h. ap (λ (z : List ℕ). at z c) f ∙ filled-at linked n links c h;
       }
 
--- links with a margin: of 4,224 entries the middle ones are the links
-pub margin : {R : Rule} {w : ℕ} {heights marks r part : List ℕ} (links : List ℕ) → length links ≡ 4224
-    → length part ≡ length (take 4096 (drop 64 links)) → Linkage R w heights marks part r
-    → Margin R w heights marks (take 64 links ++ (part ++ drop 4096 (drop 64 links))) r
+-- links with a margin: of 4,226 entries the middle ones are the links
+pub margin : {R : Rule} {w : ℕ} {heights marks r part : List ℕ} (links : List ℕ) → length links ≡ 4226
+    → length part ≡ length (take 4096 (drop 65 links)) → Linkage R w heights marks part r
+    → Margin R w heights marks (take 65 links ++ (part ++ drop 4096 (drop 65 links))) r
 margin {R} {w} {heights} {marks} {r} {part} links g h K =
     let few = K .tile .grid .few in
     let fits = K .fits-links in
-    let s = length-append part (drop 4096 (drop 64 links)) in
+    let s = length-append part (drop 4096 (drop 65 links)) in
     record {
       inside =
           subst (λ (l : List ℕ). Linkage R w heights marks l r)
-          (sym (drop-at (take 64 links) (part ++ drop 4096 (drop 64 links)) 64 (length-take-le 64 links (omega arith))))
+          (sym (drop-at (take 65 links) (part ++ drop 4096 (drop 65 links)) 65 (length-take-le 65 links (omega arith))))
           (record {
             is-rule = K .is-rule;
             tile = K .tile;
             fits-links = omega arith;
             drains = K .drains;
             beside = K .beside;
-            masks = λ c i. List·getD-append part (drop 4096 (drop 64 links)) 0 c (omega arith) ∙ K .masks c i;
+            masks = λ c i. List·getD-append part (drop 4096 (drop 65 links)) 0 c (omega arith) ∙ K .masks c i;
           });
       wide =
-          let x : length (drop 64 links) ≡ length links - 64 = length-drop 64 links in
-          let y : length (drop 4096 (drop 64 links)) ≡ length (drop 64 links) - 4096 = length-drop 4096 (drop 64 links) in
-          let z : length (take 4096 (drop 64 links)) ≡ 4096 = length-take-le 4096 (drop 64 links) (omega arith) in
-          let q : length (take 64 links) ≡ 64 = length-take-le 64 links (omega arith) in
-          let u = length-append (take 64 links) (part ++ drop 4096 (drop 64 links)) in
+          let x : length (drop 65 links) ≡ length links - 65 = length-drop 65 links in
+          let y : length (drop 4096 (drop 65 links)) ≡ length (drop 65 links) - 4096 = length-drop 4096 (drop 65 links) in
+          let z : length (take 4096 (drop 65 links)) ≡ 4096 = length-take-le 4096 (drop 65 links) (omega arith) in
+          let q : length (take 65 links) ≡ 65 = length-take-le 65 links (omega arith) in
+          let u = length-append (take 65 links) (part ++ drop 4096 (drop 65 links)) in
           omega arith;
     }
 
@@ -148,27 +149,27 @@ module _ {R : Rule} {w : ℕ} {heights marks links : List ℕ} (T : LawfulTile R
       (W .wets-are)
 
 -- masks that say the first receivers, with the chosen pairs added, are the links of the network
-module _ {R : Rule} {w : ℕ} {heights marks labels links : List ℕ} (K : Linkable R w heights marks labels links) where
+module _ (N : Neighbours) {w : ℕ} {heights marks labels links : List ℕ} (K : Linkable (ruleBy N) w heights marks labels links) where
   abbrev L : Land
-  L = tileLand R w heights marks
+  L = tileLand (ruleBy N) w heights marks
 
   abbrev firsts : ℕ → ℕ → Bool
   firsts = joined (firstReceiver L)
 
-  pub choosable : (list : List ℕ) → mostPairs (R .places) (length heights) ≤ length list → Choosable R w heights marks labels list
+  pub choosable : (list : List ℕ) → pairsFor N (length heights) ≤ length list → Choosable N w heights marks labels list
   choosable list h = record { tile = K .land .tile; lawful = K .land .lawful; labels-are = K .labels-are; room = h }
 
-  say : links ≡ filled (maskOf (R .places) w (length heights) firsts) (length heights) links
-  say = filled-by (maskOf (R .places) w (length heights) firsts) (length heights) links links (K .room) refl (K .masks) (λ c h. refl)
+  say : links ≡ filled (maskOf around w (length heights) firsts) (length heights) links
+  say = filled-by (maskOf around w (length heights) firsts) (length heights) links links (K .room) refl (K .masks) (λ c h. refl)
 
-  module _ (pairs : List ℕ) (C : ChosenPairs R w heights marks pairs) where
-    pub addable : Addable (R .places) w (length heights) firsts pairs links
+  module _ (pairs : List ℕ) (C : ChosenPairs N w heights marks pairs) where
+    pub addable : Addable w (length heights) firsts pairs links
     addable =
-        tile-addable R (K .land .is-rule) w heights marks (K .land .tile) pairs (C .chosen) (C .neighbours) (firstReceiver L) (λ c h. refl)
+        tile-addable (ruleBy N) (K .land .is-rule) w heights marks (K .land .tile) pairs (C .chosen) (C .neighbours) (firstReceiver L) (λ c h. refl)
         links links (K .room) say
 
-    pub linkage : {k : List ℕ} → k ≡ filled (maskOf (R .places) w (length heights) (withPairs (R .places) w pairs firsts)) (length heights) links
-        → Linkage R w heights marks k (receivers L)
+    pub linkage : {k : List ℕ} → k ≡ filled (maskOf around w (length heights) (withPairs w pairs firsts)) (length heights) links
+        → Linkage (ruleBy N) w heights marks k (receivers L)
     linkage {k} e =
-        pairs-linkage R (K .land .is-rule) w heights marks (K .land .tile) pairs (C .chosen) (C .neighbours) (firstReceiver L) (λ c h. refl)
+        pairs-linkage (ruleBy N) (K .land .is-rule) w heights marks (K .land .tile) pairs (C .chosen) (C .neighbours) (firstReceiver L) (λ c h. refl)
         (K .land .lawful) (K .land .whole) links k (K .room) e

@@ -2,96 +2,222 @@
 ghost use mathlib.Core.List.{List};
 ghost use mathlib.Core.Path.{_≡_};
 ghost use Prim.Native.Nat.{ℕ, _≤_};
-ghost use lib.ListN.{length};
+ghost use lib.ListN.{length, take};
 ghost use Rattle.grid.specs.Masks.{joined, maskOf};
-ghost use Rattle.grid.specs.Window.{sides};
+ghost use Rattle.grid.specs.Window.{around};
+ghost use Rattle.grid.specs.declared.Neighbours.the-variants.{Eight, Four};
 ghost use Rattle.lists.specs.Lists.{filled};
 ghost use Rattle.rules.specs.Carving as Carving;
-ghost use Rattle.rules.specs.Carving.{receivers};
 ghost use Rattle.rules.specs.FirstWays.{basin, firstReceiver};
-ghost use Rattle.rules.specs.Land.{rule4};
-ghost use Rattle.rules.specs.Links.{Linkage};
+ghost use Rattle.rules.specs.Land.{ruleBy};
 ghost use Rattle.rules.specs.Network.{liftedNetwork};
 ghost use Rattle.rules.specs.SixLists.{Holds, onto, sixLists};
 ghost use Rattle.rules.specs.Tile.{Tile, tileLand};
-ghost use Rattle.stages.specs.Linking.{CellsLinked, LawfulTile, Linkable};
+ghost use Rattle.squares.specs.Listing.{pairsFor};
+ghost use Rattle.stages.specs.Linking.{CellsLinked, LawfulTile, Linkable, LinksFound, PassesLinked};
 use basins::basin_numbers;
 use drainage::drain;
 use first_receivers::first_receivers;
 use first_receivers::weights;
+use grid::Neighbours;
 use links::link_leads;
 use links::link_pairs;
 use passes::choose_pairs;
 use walk::walk_links;
 
 // Rule 1: first receivers, and the links with them as masks. Work space: 4 KB.
-fn find_first(w: usize, heights: &[u32], marks: &[u8], firsts: &mut [u16], links: &mut [u8])
+fn find_first(
+    neighbours: Neighbours,
+    w: usize,
+    heights: &[u32],
+    marks: &[u8],
+    firsts: &mut [u16],
+    links: &mut [u8],
+)
     requires { ⌜ Tile w (now heights) (now marks) ⌝ }
     requires { ⌜ (length (now heights) ≤ length (now firsts)) × (length (now heights) ≤ length (now links)) ⌝ }
     ensures { λ _. ⌜
         now (firsts .exit)
-        ≡ filled (firstReceiver (tileLand rule4 w (now (heights .entry)) (now (marks .entry)))) (length (now (heights .entry))) (now (firsts .entry))
+        ≡ filled (firstReceiver (tileLand (ruleBy neighbours) w (now (heights .entry)) (now (marks .entry))))
+        (length (now (heights .entry))) (now (firsts .entry))
         ⌝ }
-    ensures { λ _. ⌜
-        now (links .exit)
-        ≡ filled (maskOf sides w (length (now (heights .entry))) (joined (firstReceiver (tileLand rule4 w (now (heights .entry)) (now (marks .entry))))))
-        (length (now (heights .entry))) (now (links .entry))
-        ⌝ }
+    ensures { λ _.
+        let first = firstReceiver (tileLand (ruleBy neighbours) w (now (heights .entry)) (now (marks .entry))) in
+        let n = length (now (heights .entry)) in
+        ⌜ now (links .exit) ≡ filled (maskOf around w n (joined first)) n (now (links .entry)) ⌝ }
 {
     let mut weight = [0u8; 4096];
     let n = heights.len();
-    weights(w, heights, marks, &mut weight);
-    first_receivers(w, &weight, n, firsts);
-    link_leads(w, &weight, n, links);
+    weights(neighbours, w, heights, marks, &mut weight);
+    first_receivers(neighbours, w, &weight, n, firsts);
+    link_leads(neighbours, w, &weight, n, links);
 }
 
-// Rules 3 to 6: the links of chosen passes, added to those of first receivers. Work space: 16 KB, and that of choosing.
-fn link_passes(w: usize, heights: &[u32], labels: &[u16], links: &mut [u8])
-    requires { ⌜ ((marks : List ℕ) × Linkable rule4 w (now heights) marks (now labels) (now links)) ⌝ }
-    ensures { λ _. ⌜
-        ((marks : List ℕ) → Linkable rule4 w (now (heights .entry)) marks (now (labels .entry)) (now (links .entry))
-        → Linkage rule4 w (now (heights .entry)) marks (now (links .exit)) (receivers (tileLand rule4 w (now (heights .entry)) marks)))
-        ⌝ }
+// Rules 3 to 6: the links of chosen passes, added to those of first receivers. Both lists are work space, with room for every pair.
+fn link_chosen(
+    neighbours: Neighbours,
+    w: usize,
+    heights: &[u32],
+    labels: &[u16],
+    list: &mut [u16],
+    spare: &mut [u32],
+    links: &mut [u8],
+)
+    requires { ⌜ ((marks : List ℕ) × Linkable (ruleBy neighbours) w (now heights) marks (now labels) (now links)) ⌝ }
+    requires { ⌜ (pairsFor neighbours (length (now heights)) ≤ length (now list)) × (length (now list) ≤ length (now spare)) ⌝ }
+    ensures { λ _. ⌜ PassesLinked neighbours w (now (heights .entry)) (now (labels .entry)) (now (links .entry)) (now (links .exit)) ⌝ }
 {
-    let mut list = [0u16; 8192];
-    let count = choose_pairs(w, heights, labels, &mut list);
+    let count = choose_pairs(neighbours, w, heights, labels, list, spare);
     link_pairs(w, &list[..count], links);
 }
 
-// Rules 1 to 6: basins, and the links of the network. Work space: 8 KB, and that of the parts.
-fn find_links(w: usize, heights: &[u32], marks: &[u8], basins: &mut [u16], links: &mut [u8])
-    requires { ⌜ LawfulTile rule4 w (now heights) (now marks) ⌝ }
+// With four neighbours a cell has two pairs: to the right and below. Work space: 48 KB, and that of choosing.
+fn link_two_each(w: usize, heights: &[u32], labels: &[u16], links: &mut [u8])
+    requires { ⌜ ((marks : List ℕ) × Linkable (ruleBy Four) w (now heights) marks (now labels) (now links)) ⌝ }
+    ensures { λ _. ⌜ PassesLinked Four w (now (heights .entry)) (now (labels .entry)) (now (links .entry)) (now (links .exit)) ⌝ }
+{
+    let mut list = [0u16; 8192];
+    let mut spare = [0u32; 8192];
+    link_chosen(
+        Neighbours::Four,
+        w,
+        heights,
+        labels,
+        &mut list,
+        &mut spare,
+        links,
+    );
+}
+
+// With eight it has four: below to the left and to the right too. Work space: 96 KB, and that of choosing.
+fn link_four_each(w: usize, heights: &[u32], labels: &[u16], links: &mut [u8])
+    requires { ⌜ ((marks : List ℕ) × Linkable (ruleBy Eight) w (now heights) marks (now labels) (now links)) ⌝ }
+    ensures { λ _. ⌜ PassesLinked Eight w (now (heights .entry)) (now (labels .entry)) (now (links .entry)) (now (links .exit)) ⌝ }
+{
+    let mut list = [0u16; 16384];
+    let mut spare = [0u32; 16384];
+    link_chosen(
+        Neighbours::Eight,
+        w,
+        heights,
+        labels,
+        &mut list,
+        &mut spare,
+        links,
+    );
+}
+
+// Rules 3 to 6: the links of chosen passes, added to those of first receivers.
+fn link_passes(neighbours: Neighbours, w: usize, heights: &[u32], labels: &[u16], links: &mut [u8])
+    requires { ⌜ ((marks : List ℕ) × Linkable (ruleBy neighbours) w (now heights) marks (now labels) (now links)) ⌝ }
+    ensures { λ _. ⌜ PassesLinked neighbours w (now (heights .entry)) (now (labels .entry)) (now (links .entry)) (now (links .exit)) ⌝ }
+{
+    match neighbours {
+        Neighbours::Four => link_two_each(w, heights, labels, links),
+        Neighbours::Eight => link_four_each(w, heights, labels, links),
+    }
+}
+
+// Rules 1 and 2: basins and their labels, and the links with first receivers. Work space: that of the parts.
+fn label_cells(
+    neighbours: Neighbours,
+    w: usize,
+    heights: &[u32],
+    marks: &[u8],
+    basins: &mut [u16],
+    links: &mut [u8],
+    labels: &mut [u16],
+)
+    requires { ⌜ LawfulTile (ruleBy neighbours) w (now heights) (now marks) ⌝ }
     requires { ⌜ (length (now heights) ≤ length (now basins)) × (length (now heights) ≤ length (now links)) ⌝ }
+    requires { ⌜ length (now heights) ≤ length (now labels) ⌝ }
     ensures { λ _. ⌜
         now (basins .exit)
-        ≡ filled (basin (tileLand rule4 w (now (heights .entry)) (now (marks .entry)))) (length (now (heights .entry))) (now (basins .entry))
+        ≡ filled (basin (tileLand (ruleBy neighbours) w (now (heights .entry)) (now (marks .entry))))
+        (length (now (heights .entry))) (now (basins .entry))
         ⌝ }
     ensures { λ _. ⌜
-        Linkage rule4 w (now (heights .entry)) (now (marks .entry)) (now (links .exit))
-        (receivers (tileLand rule4 w (now (heights .entry)) (now (marks .entry))))
+        Linkable (ruleBy neighbours) w (now (heights .entry)) (now (marks .entry))
+        (take (length (now (heights .entry))) (now (labels .exit))) (now (links .exit))
         ⌝ }
+{
+    let n = heights.len();
+    find_first(neighbours, w, heights, marks, basins, links);
+    basin_numbers(n, marks, basins, labels);
+}
+
+// Rules 1 to 6: basins, and the links of the network, over the neighbours asked for. Work space: 8 KB, and that of the parts.
+fn find_links(
+    neighbours: Neighbours,
+    w: usize,
+    heights: &[u32],
+    marks: &[u8],
+    basins: &mut [u16],
+    links: &mut [u8],
+)
+    requires { ⌜ LawfulTile (ruleBy neighbours) w (now heights) (now marks) ⌝ }
+    requires { ⌜ (length (now heights) ≤ length (now basins)) × (length (now heights) ≤ length (now links)) ⌝ }
+    ensures { λ _. ⌜ LinksFound neighbours w (now (heights .entry)) (now (marks .entry)) (now (basins .entry)) (now (basins .exit)) (now (links .exit)) ⌝ }
 {
     let mut labels = [0u16; 4096];
     let n = heights.len();
-    find_first(w, heights, marks, basins, links);
-    basin_numbers(n, marks, basins, &mut labels);
-    link_passes(w, heights, &labels[..n], links);
+    label_cells(neighbours, w, heights, marks, basins, links, &mut labels);
+    link_passes(neighbours, w, heights, &labels[..n], links);
 }
 
-// Rules 1 to 6: basins, and the links of the network, with a margin of 64 entries on both sides of them.
-pub fn link_cells(w: usize, heights: &[u32], marks: &[u8], basins: &mut [u16], links: &mut [u8])
-    requires { ⌜ LawfulTile rule4 w (now heights) (now marks) ⌝ }
-    requires { ⌜ (length (now heights) ≤ length (now basins)) × (length (now links) ≡ 4224) ⌝ }
+// The same with four alone: what is needed for eight has no place in the frame of who calls this.
+fn find_side_links(w: usize, heights: &[u32], marks: &[u8], basins: &mut [u16], links: &mut [u8])
+    requires { ⌜ LawfulTile (ruleBy Four) w (now heights) (now marks) ⌝ }
+    requires { ⌜ (length (now heights) ≤ length (now basins)) × (length (now heights) ≤ length (now links)) ⌝ }
+    ensures { λ _. ⌜ LinksFound Four w (now (heights .entry)) (now (marks .entry)) (now (basins .entry)) (now (basins .exit)) (now (links .exit)) ⌝ }
+{
+    let mut labels = [0u16; 4096];
+    let n = heights.len();
+    label_cells(
+        Neighbours::Four,
+        w,
+        heights,
+        marks,
+        basins,
+        links,
+        &mut labels,
+    );
+    link_two_each(w, heights, &labels[..n], links);
+}
+
+// Rules 1 to 6: basins, and the links of the network, with a margin of 65 entries on both sides of them.
+pub fn link_cells(
+    neighbours: Neighbours,
+    w: usize,
+    heights: &[u32],
+    marks: &[u8],
+    basins: &mut [u16],
+    links: &mut [u8],
+)
+    requires { ⌜ LawfulTile (ruleBy neighbours) w (now heights) (now marks) ⌝ }
+    requires { ⌜ (length (now heights) ≤ length (now basins)) × (length (now links) ≡ 4226) ⌝ }
     ensures { λ _. ⌜
-        CellsLinked rule4 w (now (heights .entry)) (now (marks .entry)) (now (basins .entry)) (now (basins .exit)) (now (links .exit))
+        CellsLinked (ruleBy neighbours) w (now (heights .entry)) (now (marks .entry)) (now (basins .entry)) (now (basins .exit)) (now (links .exit))
         ⌝ }
 {
-    find_links(w, heights, marks, basins, &mut links[64..4160]);
+    find_links(neighbours, w, heights, marks, basins, &mut links[65..4161]);
+}
+
+// The same with four neighbours alone, for calls that can't be asked for eight and have no stack for them.
+pub fn link_sides(w: usize, heights: &[u32], marks: &[u8], basins: &mut [u16], links: &mut [u8])
+    requires { ⌜ LawfulTile (ruleBy Four) w (now heights) (now marks) ⌝ }
+    requires { ⌜ (length (now heights) ≤ length (now basins)) × (length (now links) ≡ 4226) ⌝ }
+    ensures { λ _. ⌜
+        CellsLinked (ruleBy Four) w (now (heights .entry)) (now (marks .entry)) (now (basins .entry)) (now (basins .exit)) (now (links .exit))
+        ⌝ }
+{
+    find_side_links(w, heights, marks, basins, &mut links[65..4161]);
 }
 
 // The network of a tile with an outlet, levels lifted. The list that drainage is to stand in is the walk's work space; besides it: 4 KB,
 // and that of the stages.
 pub fn work_out(
+    neighbours: Neighbours,
     w: usize,
     heights: &[u32],
     marks: &[u8],
@@ -103,10 +229,10 @@ pub fn work_out(
     drainage: &mut [u32],
     wet: &mut [u8],
 )
-    requires { ⌜ LawfulTile rule4 w (now heights) (now marks) × (length (now water) ≡ length (now heights)) ⌝ }
+    requires { ⌜ LawfulTile (ruleBy neighbours) w (now heights) (now marks) × (length (now water) ≡ length (now heights)) ⌝ }
     requires { ⌜ Holds (length (now heights)) (sixLists (now receivers) (now basins) (now order) (now levels) (now drainage) (now wet)) ⌝ }
     ensures { λ _.
-        let L = tileLand rule4 w (now (heights .entry)) (now (marks .entry)) in
+        let L = tileLand (ruleBy neighbours) w (now (heights .entry)) (now (marks .entry)) in
         let before =
         sixLists (now (receivers .entry)) (now (basins .entry)) (now (order .entry)) (now (levels .entry)) (now (drainage .entry))
         (now (wet .entry)) in
@@ -115,9 +241,10 @@ pub fn work_out(
         (now (wet .exit)) in
         ⌜ after ≡ onto (liftedNetwork L (now (water .entry)) (Carving.receivers L)) before ⌝ }
 {
-    let mut links = [0u8; 4224];
-    link_cells(w, heights, marks, basins, &mut links);
+    let mut links = [0u8; 4226];
+    link_cells(neighbours, w, heights, marks, basins, &mut links);
     walk_links(
+        neighbours,
         w,
         heights,
         marks,

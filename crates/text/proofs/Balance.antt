@@ -16,8 +16,9 @@ use Rattle.rules.specs.Carving.{receivers}
 use Rattle.rules.specs.FirstWays.{solidCells}
 use Rattle.rules.specs.Ground.{cellsOf, Drainable, Ground}
 use Rattle.rules.specs.Land.{Land, land4}
-use Rattle.rules.specs.Network.{drainage, liftedNetwork, network, networkOf, outlets}
+use Rattle.rules.specs.Network.{drainage, liftedNetwork, network, networkBy, networkOf, outlets}
 use Rattle.text.specs.Text.{outletDrainage}
+use Rattle.grid.specs.declared.Neighbours.the-variants.{Four}
 
 -- the sum over a table's entries
 outlets-table : (f : ℕ → ℕ) (marks : List ℕ) (n : ℕ)
@@ -30,11 +31,11 @@ outlets-table f marks n =
 -- on the network of a ground that drains, with water for each cell
 pub sums-agree : (g : Ground) → Drainable g → length (g .water) ≡ cellsOf g
     → outletDrainage (network g .drainage) (g .marks) (cellsOf g) ≡ sum (g .water)
-unfolding network networkOf liftedNetwork outlets solidCells
+unfolding networkBy networkOf liftedNetwork outlets solidCells
 sums-agree g o full =
     let L : Land = land4 g in
     let n : ℕ = cellsOf g in
     outlets-table (drainage L (g .water) (receivers L)) (g .marks) n
-    ∙ tile-demand-3 g o .rain-adds-up
+    ∙ tile-demand-3 Four g o .rain-adds-up
     ∙ ap (λ (l : List ℕ). sum (map (at (g .water)) l)) (keep-all (λ c. true) (upto n) (λ c m. refl))
     ∙ ap sum (tab-is (at (g .water)) (g .water) n 0 full (λ k l. refl))

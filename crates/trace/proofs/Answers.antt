@@ -18,12 +18,13 @@ use Rattle.rules.proofs.Traces.{trace-reaches, trace-same}
 use Rattle.rules.specs.Carving.{receivers}
 use Rattle.rules.specs.Demand3.{innerCells}
 use Rattle.rules.specs.Ground.{cellsOf, Ground}
-use Rattle.rules.specs.Land.{Land, land4}
+use Rattle.rules.specs.Land.{Land, landBy}
 use Rattle.rules.specs.Left.{LeftDemand3}
 use Rattle.rules.specs.Network.{Network}
 use Rattle.rules.specs.Trace.{reached, refused, RunsInRing, stopped, trace, Traced}
 use Rattle.rules.specs.Way.{Drains, Lawful}
 use Rattle.trace.specs.Answer.{answerOf, AtOutlet}
+use Rattle.grid.specs.declared.Neighbours.{Neighbours}
 use Rattle.trace.specs.declared.TraceAnswer.{TraceAnswer}
 use Rattle.trace.specs.declared.TraceAnswer.the-variants.{BadCell, BadEntry, BadList, Outlet, Stopped}
 
@@ -63,24 +64,24 @@ module _ (L : Land) (r : List ℕ) (D : Drains L r) (small : L .cells ≤ 4096) 
       → (a b : TraceAnswer) → answerOf a ≡ trace r c budget → answerOf b ≡ trace r c larger → a ≡ b
   larger-budget budget larger l k a b e f = trace-one a b (e ∙ trace-same L r D small c h s budget larger l k ∙ sym f)
 
--- the network of document 01 is such a list
+-- a network's receivers are such a list
 pub network-answers-outlet : (L : Land) → Lawful L → L .cells ≤ 4096 → (c : ℕ) → c < L .cells → L .solid c ≡ true
     → (budget : ℕ) → length (innerCells L) ≤ budget → (a : TraceAnswer) → answerOf a ≡ trace (receivers L) c budget
     → AtOutlet L (receivers L) c a
 network-answers-outlet L W small = answers-outlet L (receivers L) (receivers-drain L W (λ d t. omega arith)) small
 
--- and so are the receivers of six lists that have demand 3, wherever they stand
-module _ (g : Ground) (s : Network ℤ) (D : LeftDemand3 g s) (few : cellsOf g ≤ 4096) (c : ℕ) (h : c < cellsOf g) where
+-- and so are the receivers of six lists that have demand 3, over the neighbours asked for, wherever they stand
+module _ (N : Neighbours) (g : Ground) (s : Network ℤ) (D : LeftDemand3 N g s) (few : cellsOf g ≤ 4096) (c : ℕ) (h : c < cellsOf g) where
   abbrev left : List ℕ
   left = take (cellsOf g) (s .receivers)
 
-  pub left-answers-outlet : (budget : ℕ) → length (innerCells (land4 g)) ≤ budget → (a : TraceAnswer) → answerOf a ≡ trace left c budget
-      → AtOutlet (land4 g) left c a
-  left-answers-outlet = answers-outlet (land4 g) left (D .drains) few c h refl
+  pub left-answers-outlet : (budget : ℕ) → length (innerCells (landBy N g)) ≤ budget → (a : TraceAnswer) → answerOf a ≡ trace left c budget
+      → AtOutlet (landBy N g) left c a
+  left-answers-outlet = answers-outlet (landBy N g) left (D .drains) few c h refl
 
-  pub left-larger-budget : (budget larger : ℕ) → length (innerCells (land4 g)) ≤ budget → length (innerCells (land4 g)) ≤ larger
+  pub left-larger-budget : (budget larger : ℕ) → length (innerCells (landBy N g)) ≤ budget → length (innerCells (landBy N g)) ≤ larger
       → (a b : TraceAnswer) → answerOf a ≡ trace left c budget → answerOf b ≡ trace left c larger → a ≡ b
-  left-larger-budget = larger-budget (land4 g) left (D .drains) few c h refl
+  left-larger-budget = larger-budget (landBy N g) left (D .drains) few c h refl
 
 -- on a list that runs in a ring the call answers stopped, at the cell that the budget leads to, and the steps are the whole budget
 pub ring-answers-stopped : (r : List ℕ) (c : ℕ) → RunsInRing r c → length r ≤ 4096 → c < length r

@@ -7,9 +7,11 @@ use Prim.Native.Nat.{ℕ, _+_, _-_, _<_, _≤_}
 use native.Mathlib.Omega.{arith}
 use lib.ListN.{drop, length, length-append, length-map}
 use lib.Seq.{drop-at, drop-drop, getD-drop}
+use Rattle.grid.proofs.AtPlaces.{one}
 use Rattle.grid.proofs.Masks.{mask-same}
-use Rattle.grid.proofs.Neighbours.{one}
+use Rattle.grid.proofs.Rules.{around-rule}
 use Rattle.grid.specs.Masks.{maskOf}
+use Rattle.grid.specs.Window.{around}
 use Rattle.lists.proofs.Filled.{filled-again, filled-at}
 use Rattle.lists.proofs.Keep.{keep-member}
 use Rattle.lists.proofs.Map.{map-same}
@@ -66,23 +68,23 @@ module _ {R : Rule} {w : ℕ} {heights marks links r : List ℕ} (M : Margin R w
   n = length heights
 
   abbrev e : ℕ → ℕ
-  e = entryOf (R .places) w L r
+  e = entryOf w L r
 
-  outlet-entry : (x : ℕ) → x ∈ outlets L → outletEntry (R .places) links x ≡ e x
+  outlet-entry : (x : ℕ) → x ∈ outlets L → outletEntry links x ≡ e x
   unfolding outlets
   outlet-entry x m =
       let k = keep-member (L .outlet) (upto n) m in
       let h : x < n = upto-below (k .0) in
       let K = M .inside in
-      let p : x + 64 ≡ 64 + x = omega arith in
-      let a : at links (x + 64) ≡ maskOf (R .places) w n (gives L r) x =
-      ap (at links) p ∙ sym (getD-drop 64 links x 0) ∙ K .masks x h
-      ∙ mask-same (K .tile .grid .rows) (K .is-rule) x (receivesEither L r) (gives L r) (λ q d i S. rw (k .1)) in
-      ap (entry (R .places) x x) a ∙ ap (λ (y : ℕ). entry (R .places) y x (maskOf (R .places) w n (gives L r) x)) (sym (K .drains .own x h (k .1)))
+      let p : x + 65 ≡ 65 + x = omega arith in
+      let a : at links (x + 65) ≡ maskOf around w n (gives L r) x =
+      ap (at links) p ∙ sym (getD-drop 65 links x 0) ∙ K .masks x h
+      ∙ mask-same (K .tile .grid .rows) around-rule x (receivesEither L r) (gives L r) (λ q d i S. rw (k .1)) in
+      ap (entry x x) a ∙ ap (λ (y : ℕ). entry y x (maskOf around w n (gives L r) x)) (sym (K .drains .own x h (k .1)))
 
   module _ (stack stack₁ levels levels₁ : List ℕ) (t : ℕ)
       (noted : levels₁ ≡ filled (at heights) n levels) (count : t + length (keep (isOutlet marks) (upto (length marks))) ≡ length marks)
-      (from-top : drop t stack₁ ≡ map (outletEntry (R .places) links) (keep (isOutlet marks) (upto (length marks))) ++ drop (length marks) stack)
+      (from-top : drop t stack₁ ≡ map (outletEntry links) (keep (isOutlet marks) (upto (length marks))) ++ drop (length marks) stack)
     where
       abbrev os : List ℕ
       os = keep (isOutlet marks) (upto n)
@@ -90,22 +92,22 @@ module _ {R : Rule} {w : ℕ} {heights marks links r : List ℕ} (M : Margin R w
       counted : t + length os ≡ n
       counted = subst (λ (k : ℕ). t + length (keep (isOutlet marks) (upto k)) ≡ k) (M .inside .tile .marked) count
 
-      pushed : drop t stack₁ ≡ map (outletEntry (R .places) links) os ++ drop n stack
+      pushed : drop t stack₁ ≡ map (outletEntry links) os ++ drop n stack
       pushed =
-          subst (λ (k : ℕ). drop t stack₁ ≡ map (outletEntry (R .places) links) (keep (isOutlet marks) (upto k)) ++ drop k stack)
+          subst (λ (k : ℕ). drop t stack₁ ≡ map (outletEntry links) (keep (isOutlet marks) (upto k)) ++ drop k stack)
           (M .inside .tile .marked) from-top
 
       past-outlets : drop n stack₁ ≡ drop n stack
       past-outlets =
           ap (λ (m : ℕ). drop m stack₁) (sym counted) ∙ sym (drop-drop (length os) t stack₁) ∙ ap (drop (length os)) pushed
-          ∙ drop-at (map (outletEntry (R .places) links) os) (drop n stack) (length os) (length-map os (outletEntry (R .places) links))
+          ∙ drop-at (map (outletEntry links) os) (drop n stack) (length os) (length-map os (outletEntry links))
 
-      pub ready : (order receivers wets : List ℕ) → Ready (R .places) w L r (lent stack₁ order receivers levels₁ wets) t
+      pub ready : (order receivers wets : List ℕ) → Ready w L r (lent stack₁ order receivers levels₁ wets) t
       unfolding outlets
       ready order receivers wets =
           record {
             top = counted;
-            stacked = pushed ∙ ap (λ (z : List ℕ). z ++ drop n stack) (map-same (outletEntry (R .places) links) e os outlet-entry)
+            stacked = pushed ∙ ap (λ (z : List ℕ). z ++ drop n stack) (map-same (outletEntry links) e os outlet-entry)
                 ∙ ap (λ (z : List ℕ). map e os ++ z) (sym past-outlets);
             heights-noted = λ c h. ap (λ (l : List ℕ). at l c) noted ∙ filled-at (at heights) n levels c h;
           }

@@ -1,6 +1,10 @@
 pub mod Entries
 pub mod Pushing
 pub mod Givers
+pub mod Asked
+pub mod Besides
+pub mod InRow
+pub mod Room
 pub mod Outlets
 pub mod Midst
 pub mod Begins

@@ -25,13 +25,13 @@ use Rattle.walk.specs.Climb.{entryOf, Ready}
 use Rattle.walk.specs.Walk.{Lent, LentHolds, Walked}
 
 -- k cells are written, and the stack's top is at t
-pub record Midst (places : List ℕ) (w : ℕ) (L : Land) (r : List ℕ) (s₀ s : Lent) (k t : ℕ) : Type 0 where
+pub record Midst (w : ℕ) (L : Land) (r : List ℕ) (s₀ s : Lent) (k t : ℕ) : Type 0 where
   pub written : List ℕ
   pub pending : List ℕ
   pub ordered : s .order ≡ written ++ drop k (s₀ .order)
   pub size-order : length (s .order) ≡ length (s₀ .order)
   pub size-stack : length (s .stack) ≡ length (s₀ .stack)
-  pub stacked : drop t (s .stack) ≡ map (entryOf places w L r) pending ++ drop (L .cells) (s₀ .stack)
+  pub stacked : drop t (s .stack) ≡ map (entryOf w L r) pending ++ drop (L .cells) (s₀ .stack)
   pub at-k : length written ≡ k
   pub at-t : t + length pending ≡ L .cells
   pub rule : written ++ flat (from L r) pending ≡ order L r
@@ -42,9 +42,9 @@ pub record Midst (places : List ℕ) (w : ℕ) (L : Land) (r : List ℕ) (s₀ s
   pub noted-levels : Noted (level L r) written (s₀ .levels) (s .levels)
   pub noted-wets : Noted (wet L r) written (s₀ .wets) (s .wets)
 
-module _ {places : List ℕ} {w : ℕ} {L : Land} {r : List ℕ} (D : Drains L r) where
+module _ {w : ℕ} {L : Land} {r : List ℕ} (D : Drains L r) where
   -- the outlets are pending
-  pub begin : {s : Lent} {t : ℕ} → Ready places w L r s t → Midst places w L r s s 0 t
+  pub begin : {s : Lent} {t : ℕ} → Ready w L r s t → Midst w L r s s 0 t
   unfolding order from
   begin {s} {t} R =
       record {
@@ -69,7 +69,7 @@ module _ {places : List ℕ} {w : ℕ} {L : Land} {r : List ℕ} (D : Drains L r
       outlets-only x o (done h q) = false≢true (sym o ∙ q)
 
   -- the lists keep their places
-  pub still-room : {s₀ s : Lent} {k t : ℕ} → Midst places w L r s₀ s k t → LentHolds (L .cells) s₀ → LentHolds (L .cells) s
+  pub still-room : {s₀ s : Lent} {k t : ℕ} → Midst w L r s₀ s k t → LentHolds (L .cells) s₀ → LentHolds (L .cells) s
   still-room {s₀} {s} {k} {t} I P =
       let a = I .size-stack in let b = I .size-order in let c = I .noted-receivers .size in let d = I .noted-levels .size in
       let e = I .noted-wets .size in
@@ -83,7 +83,7 @@ module _ {places : List ℕ} {w : ℕ} {L : Land} {r : List ℕ} (D : Drains L r
       }
 
   -- nothing is pending
-  module _ {s₀ s : Lent} {k t : ℕ} (I : Midst places w L r s₀ s k t) (end : L .cells ≤ t) where
+  module _ {s₀ s : Lent} {k t : ℕ} (I : Midst w L r s₀ s k t) (end : L .cells ≤ t) where
     nothing : (l : List ℕ) → length l ≡ 0 → l ≡ []
     nothing [] e = refl
     nothing (y ∷ ys) e = absurd (omega arith)
@@ -119,5 +119,5 @@ module _ {places : List ℕ} {w : ℕ} {L : Land} {r : List ℕ} (D : Drains L r
               (λ x h. level-at x h (known (L .solid x))) level-past;
           wets-are = subst (λ (l : List ℕ). Noted (wet L r) l (s₀ .wets) (s .wets)) written-is (I .noted-wets);
           past = ap (λ (i : ℕ). drop i (s .stack)) (sym at-end) ∙ I .stacked
-              ∙ ap (λ (l : List ℕ). map (entryOf places w L r) l ++ drop (L .cells) (s₀ .stack)) none-left;
+              ∙ ap (λ (l : List ℕ). map (entryOf w L r) l ++ drop (L .cells) (s₀ .stack)) none-left;
         }

@@ -11,8 +11,8 @@ use Rattle.walk.proofs.walk_links.Reads as walk-links
 
 -- what is past the cells' places on the stack, order, receivers, levels and wet
 pub walk-links-one : OneOutcome 8 walk-links-kinds.ps walk-links-kinds.r walk-links.Asked walk-links.Learnt
-    (λ κs a r e. lent (drop (length (a .1 .0 .now)) (e .1 .1 .1 .1 .0 .now)) (e .1 .1 .1 .1 .1 .0 .now) (e .1 .1 .1 .1 .1 .1 .0 .now)
-    (e .1 .1 .1 .1 .1 .1 .1 .0 .now) (e .1 .1 .1 .1 .1 .1 .1 .1 .0 .now))
+    (λ κs a r e. lent (drop (length (a .1 .1 .0 .now)) (e .1 .1 .1 .1 .1 .0 .now)) (e .1 .1 .1 .1 .1 .1 .0 .now) (e .1 .1 .1 .1 .1 .1 .1 .0 .now)
+    (e .1 .1 .1 .1 .1 .1 .1 .1 .0 .now) (e .1 .1 .1 .1 .1 .1 .1 .1 .1 .0 .now))
 walk-links-one κs a p r r′ e e′ x y =
     let (s, M) = p .0 in
     let u = x s M in

@@ -6,7 +6,7 @@ use mathlib.Core.Path.{ap, sym, _∙_, _≡_}
 use Prim.Native.Nat.{suc, ℕ, _-_, _<_, _≤_}
 use native.Mathlib.Omega.{arith}
 use lib.ListN.{length}
-use Rattle.grid.proofs.Neighbours.{one}
+use Rattle.grid.proofs.AtPlaces.{one}
 use Rattle.lists.proofs.Keep.{keep-length}
 use Rattle.lists.proofs.Range.{range-length}
 use Rattle.lists.specs.Lists.{keep, range, upto}

@@ -9,7 +9,7 @@ use native.Mathlib.Omega.{arith}
 use lib.ListN.{drop, length, length-append, length-set, set}
 use lib.Seq.{drop-cons, drop-set-lt, getD-set-same}
 use borrow.Author.Tests.{ne-eqb}
-use Rattle.grid.proofs.Neighbours.{one}
+use Rattle.grid.proofs.AtPlaces.{one}
 use Rattle.grid.specs.Masks.{bits}
 use Rattle.lists.proofs.Tests.{eq-or-ne}
 use Rattle.lists.specs.Lists.{flat, _∈_}

@@ -21,7 +21,7 @@ use Rattle.walk.proofs.Tops.{Top}
 use Rattle.walk.specs.Walk.{Lent, Margin}
 
 module _ {R : Rule} {w : ℕ} {heights marks links r : List ℕ} (M : Margin R w heights marks links r) {s₀ s : Lent} {k t : ℕ}
-    {I : Midst (R .places) w (tileLand R w heights marks) r s₀ s k t} (T : Top I) where
+    {I : Midst w (tileLand R w heights marks) r s₀ s k t} (T : Top I) where
   abbrev L : Land
   L = tileLand R w heights marks
 

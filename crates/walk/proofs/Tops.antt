@@ -10,7 +10,9 @@ use native.Mathlib.Omega.{arith}
 use lib.ListN.{drop, length, length-append}
 use lib.Seq.{drop-cons}
 use Rattle.grid.proofs.Masks.{mask-small}
+use Rattle.grid.proofs.Rules.{around-rule}
 use Rattle.grid.specs.Masks.{maskOf}
+use Rattle.grid.specs.Window.{around}
 use Rattle.lists.proofs.Flat.{flat-append}
 use Rattle.lists.specs.Lists.{at, flat, _∈_}
 use Rattle.rules.proofs.Orders.{from, from-step, giver, giver-runs, runs-on}
@@ -26,17 +28,17 @@ use Rattle.walk.specs.Climb.{cellIn, entryOf, maskIn, ones, receiverIn}
 use Rattle.walk.specs.Walk.{Lent, Margin}
 
 -- the top cell
-pub record Top {places : List ℕ} {w : ℕ} {L : Land} {r : List ℕ} {s₀ s : Lent} {k t : ℕ} (I : Midst places w L r s₀ s k t) : Type 0 where
+pub record Top {w : ℕ} {L : Land} {r : List ℕ} {s₀ s : Lent} {k t : ℕ} (I : Midst w L r s₀ s k t) : Type 0 where
   pub x : ℕ
   pub under : List ℕ
   pub is-top : I .pending ≡ x ∷ under
   pub on : x < L .cells
   pub runs : (j : ℕ) × Runs L (at r) x j
-  pub entry-is : at (s .stack) t ≡ entryOf places w L r x
-  pub rest : drop (t + 1) (s .stack) ≡ map (entryOf places w L r) under ++ drop (L .cells) (s₀ .stack)
+  pub entry-is : at (s .stack) t ≡ entryOf w L r x
+  pub rest : drop (t + 1) (s .stack) ≡ map (entryOf w L r) under ++ drop (L .cells) (s₀ .stack)
 
 module _ {R : Rule} {w : ℕ} {heights marks links r : List ℕ} (M : Margin R w heights marks links r) {s₀ s : Lent} {k t : ℕ}
-    (I : Midst (R .places) w (tileLand R w heights marks) r s₀ s k t) where
+    (I : Midst w (tileLand R w heights marks) r s₀ s k t) where
   abbrev L : Land
   L = tileLand R w heights marks
 
@@ -47,7 +49,7 @@ module _ {R : Rule} {w : ℕ} {heights marks links r : List ℕ} (M : Margin R w
   D = M .inside .drains
 
   abbrev e : ℕ → ℕ
-  e = entryOf (R .places) w L r
+  e = entryOf w L r
 
   pub top : t < n → n ≤ length (s .stack) → Top I
   top todo fits = go (I .pending) refl
@@ -84,14 +86,14 @@ module _ {R : Rule} {w : ℕ} {heights marks links r : List ℕ} (M : Margin R w
     x = T .x
 
     abbrev child : ℕ
-    child = maskOf (R .places) w n (gives L r) x
+    child = maskOf around w n (gives L r) x
 
     -- what the entry says
-    pub parts : Parts (R .places) (at (s .stack) t) (at r x) x child
+    pub parts : Parts (at (s .stack) t) (at r x) x child
     parts =
         let a : x < n = T .on in let K = M .inside in let few = K .tile .grid .few in
-        subst (λ (z : ℕ). Parts (R .places) z (at r x) x child) (sym (T .entry-is))
-        (entry-parts (R .places) (at r x) x child (omega arith) (mask-small (K .tile .grid .rows) (K .is-rule) x (gives L r)))
+        subst (λ (z : ℕ). Parts z (at r x) x child) (sym (T .entry-is))
+        (entry-parts (at r x) x child (omega arith) (mask-small (K .tile .grid .rows) around-rule x (gives L r)))
 
     receiver-on : at r x < n
     receiver-on = go (T .runs .1)
@@ -120,7 +122,7 @@ module _ {R : Rule} {w : ℕ} {heights marks links r : List ℕ} (M : Margin R w
         go (inr i) = I .runs y (subst (λ (l : List ℕ). y ∈ l) (sym (T .is-top)) (in-tail i))
 
     -- there is room in the order and on the stack
-    pub room : (k < n) × (ones (R .places) child ≤ t)
+    pub room : (k < n) × (ones around child ≤ t)
     room =
         let a : length ((I .written ++ (x ∷ [])) ++ flat (from L r) after) ≡ length (order L r) = ap length next-rule in
         let b = length-append (I .written ++ (x ∷ [])) (flat (from L r) after) in
@@ -130,14 +132,14 @@ module _ {R : Rule} {w : ℕ} {heights marks links r : List ℕ} (M : Margin R w
         let h : length (order L r) ≤ n = order-few L r D in
         let i : length (I .pending) ≡ suc (length (T .under)) = ap length (T .is-top) in
         let j = I .at-k in let m : t + length (I .pending) ≡ n = I .at-t in
-        let o : length (givers L r x) ≡ ones (R .places) child = givers-count M x (T .on) in
+        let o : length (givers L r x) ≡ ones around child = givers-count M x (T .on) in
         (omega arith, omega arith)
 
-    pub cell-on : cellIn (R .places) (at (s .stack) t) < n
+    pub cell-on : cellIn (at (s .stack) t) < n
     cell-on = rw (parts .cell-is) (T .on)
 
-    pub receiver-there : receiverIn (R .places) (at (s .stack) t) < n
+    pub receiver-there : receiverIn (at (s .stack) t) < n
     receiver-there = rw (parts .receiver-is) receiver-on
 
-    pub bits-fit : ones (R .places) (maskIn (R .places) (at (s .stack) t)) ≤ t
+    pub bits-fit : ones around (maskIn (at (s .stack) t)) ≤ t
     bits-fit = rw (parts .mask-is) (room .1)

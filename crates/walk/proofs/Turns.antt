@@ -9,6 +9,7 @@ use Prim.Native.Nat.{max, suc, ℕ, _+_, _<_}
 use native.Mathlib.Omega.{arith}
 use lib.ListN.{drop, length, length-append, length-set, set}
 use Rattle.grid.specs.Masks.{maskOf}
+use Rattle.grid.specs.Window.{around}
 use Rattle.lists.proofs.Noted.{noted-next}
 use Rattle.lists.proofs.Overwrite.{overwrite-put}
 use Rattle.lists.specs.Lists.{at, _∈_}
@@ -25,7 +26,7 @@ use Rattle.walk.specs.Climb.{cellIn, entryOf, maskIn, ones, pushes, rece
 use Rattle.walk.specs.Walk.{lent, Lent, Margin, LentHolds}
 
 module _ {R : Rule} {w : ℕ} {heights marks links r : List ℕ} (M : Margin R w heights marks links r) {s₀ s : Lent} {k t : ℕ}
-    {I : Midst (R .places) w (tileLand R w heights marks) r s₀ s k t} (T : Top I) (P : LentHolds (length heights) s₀) where
+    {I : Midst w (tileLand R w heights marks) r s₀ s k t} (T : Top I) (P : LentHolds (length heights) s₀) where
   abbrev L : Land
   L = tileLand R w heights marks
 
@@ -39,10 +40,10 @@ module _ {R : Rule} {w : ℕ} {heights marks links r : List ℕ} (M : Margin R w
   x = T .x
 
   abbrev child : ℕ
-  child = maskOf (R .places) w n (gives L r) x
+  child = maskOf around w n (gives L r) x
 
   abbrev e : ℕ → ℕ
-  e = entryOf (R .places) w L r
+  e = entryOf w L r
 
   -- its new level
   abbrev new : ℕ
@@ -60,16 +61,16 @@ module _ {R : Rule} {w : ℕ} {heights marks links r : List ℕ} (M : Margin R w
       go (inr i) = in-left (x ∷ []) (I .behind y (subst (λ (l : List ℕ). y ∈ l) (sym (T .is-top)) (in-tail i)) o)
 
   -- with the entry's own cell, receiver and mask
-  turn-top : (stack′ : List ℕ) (t′ : ℕ) → length stack′ ≡ length (s .stack) → t′ + ones (R .places) child ≡ t + 1
-      → drop t′ stack′ ≡ pushes (R .places) w links x child ++ drop (t + 1) (s .stack)
-      → Midst (R .places) w L r s₀
+  turn-top : (stack′ : List ℕ) (t′ : ℕ) → length stack′ ≡ length (s .stack) → t′ + ones around child ≡ t + 1
+      → drop t′ stack′ ≡ pushes w links x child ++ drop (t + 1) (s .stack)
+      → Midst w L r s₀
       (lent stack′ (set (s .order) k x) (set (s .receivers) x (at r x)) (set (s .levels) x new)
       (set (s .wets) x wetness)) (k + 1) t′
   turn-top stack′ t′ size moved pushed =
       let a : t + length (I .pending) ≡ n = I .at-t in let kn : k < n = room M I T .0 in let ak = I .at-k in
       let u : length (I .pending) ≡ suc (length (T .under)) = ap length (T .is-top) in
       let g = length-append (givers L r x) (T .under) in
-      let o : length (givers L r x) ≡ ones (R .places) child = givers-count M x (T .on) in
+      let o : length (givers L r x) ≡ ones around child = givers-count M x (T .on) in
       let d = length-append (I .written) (x ∷ []) in
       let on : x < n = T .on in let p₁ = P .fits-order in let p₂ = P .fits-receivers in let p₃ = P .fits-levels in let p₄ = P .fits-wets in
       record {
@@ -78,7 +79,7 @@ module _ {R : Rule} {w : ℕ} {heights marks links r : List ℕ} (M : Margin R w
         ordered = ap (λ (l : List ℕ). set l k x) (I .ordered) ∙ overwrite-put (I .written) (s₀ .order) k x (I .at-k) (omega arith);
         size-order = length-set (s .order) k x ∙ I .size-order;
         size-stack = size ∙ I .size-stack;
-        stacked = pushed ∙ ap (λ (l : List ℕ). pushes (R .places) w links x child ++ l) (T .rest)
+        stacked = pushed ∙ ap (λ (l : List ℕ). pushes w links x child ++ l) (T .rest)
             ∙ ap (λ (l : List ℕ). l ++ (map e (T .under) ++ drop n (s₀ .stack))) (pushes-givers M x (T .on))
             ∙ sym (append-assoc (map e (givers L r x)) (map e (T .under)) (drop n (s₀ .stack)))
             ∙ ap (λ (l : List ℕ). l ++ drop n (s₀ .stack)) (sym (map-append e (givers L r x) (T .under)));
@@ -94,12 +95,12 @@ module _ {R : Rule} {w : ℕ} {heights marks links r : List ℕ} (M : Margin R w
       }
 
   -- with what is read out of the entry
-  pub turn : (c q m : ℕ) {stack′ o′ r′ l′ v′ : List ℕ} {t′ : ℕ} → c ≡ cellIn (R .places) (at (s .stack) t) → q ≡ receiverIn (R .places) (at (s .stack) t)
-      → m ≡ maskIn (R .places) (at (s .stack) t) → length stack′ ≡ length (s .stack) → t′ + ones (R .places) m ≡ t + 1
-      → drop t′ stack′ ≡ pushes (R .places) w links c m ++ drop (t + 1) (s .stack)
+  pub turn : (c q m : ℕ) {stack′ o′ r′ l′ v′ : List ℕ} {t′ : ℕ} → c ≡ cellIn (at (s .stack) t) → q ≡ receiverIn (at (s .stack) t)
+      → m ≡ maskIn (at (s .stack) t) → length stack′ ≡ length (s .stack) → t′ + ones around m ≡ t + 1
+      → drop t′ stack′ ≡ pushes w links c m ++ drop (t + 1) (s .stack)
       → o′ ≡ set (s .order) k c → r′ ≡ set (s .receivers) c q → l′ ≡ set (s .levels) c (max (at heights c) (at (s .levels) q))
       → v′ ≡ set (s .wets) c (cond (isWet (at heights c) (max (at heights c) (at (s .levels) q))) 1 0)
-      → Midst (R .places) w L r s₀ (lent stack′ o′ r′ l′ v′) (k + 1) t′
+      → Midst w L r s₀ (lent stack′ o′ r′ l′ v′) (k + 1) t′
   turn c q m {stack′} {o′} {r′} {l′} {v′} {t′} ec eq em size moved pushed eo er el ev =
       let p = parts M I T in
       let c′ : c ≡ x = ec ∙ p .cell-is in

@@ -30,10 +30,10 @@ pub record LentHolds (n : ℕ) (s : Lent) : Type 0 where
   pub fits-levels : n ≤ length (s .levels)
   pub fits-wets : n ≤ length (s .wets)
 
--- links of receivers r, with a margin of 64 entries on both sides of them, so that every cell has entries beside it
+-- links of receivers r, with a margin of 65 entries on both sides of them, so that every cell has entries beside it
 pub record Margin (R : Rule) (w : ℕ) (heights marks links r : List ℕ) : Type 0 where
-  pub inside : Linkage R w heights marks (drop 64 links) r
-  pub wide : length heights + 128 ≤ length links
+  pub inside : Linkage R w heights marks (drop 65 links) r
+  pub wide : length heights + 130 ≤ length links
 
 -- what the walk leaves: the order of rule 8, for its cells the receivers and the wetness of rule 10, and the levels of rule 7;
 -- all else is as it was, and so is what is past the cells' places on the stack

@@ -2,23 +2,29 @@
 
 use second::ground::Ground;
 use second::lake_list::LAKE;
+use second::neighbours::Neighbours;
 
 use crate::cases::{self, Cases};
-use crate::library::{Libraries, Library};
+use crate::kinds::{Kind, OF_COUNT, OF_DEPTH, OF_GROUND};
+use crate::library::Libraries;
 use crate::{demand3, lake_laws};
+
+/// A call as the comparison makes it: the neighbours asked for, a ground record and a room in, one
+/// number back.
+pub type Made<'a> = dyn Fn(u32, &[u8], &mut [u8]) -> u32 + 'a;
 
 /// One of the calls.
 pub struct Call {
     /// Its name in the header.
     pub name: &'static str,
-    /// Where it is found in a set of libraries.
-    pub of: fn(&Libraries) -> Library,
+    /// Makes it in a set of libraries. One that isn't told the neighbours passes over them.
+    pub make: fn(&Libraries, u32, &[u8], &mut [u8]) -> u32,
     /// The records and rooms that it is tried with.
     pub cases: Cases,
     /// How many cases it has for a hundred that are asked for.
     pub share: u64,
     /// The kinds of answer that a default run has to see often.
-    pub kinds: &'static [Kind],
+    pub kinds: &'static [&'static [Kind]],
     /// What an accepted answer says, in words that follow its number.
     pub meaning: &'static str,
     /// How many bytes are written with an accepted answer.
@@ -26,84 +32,68 @@ pub struct Call {
     /// What a byte of the room belongs to, with an accepted answer.
     pub part: fn(usize, u32) -> String,
     /// What is wrong with the bytes that were written, by brute force.
-    pub judge: fn(&Ground, &[u8]) -> Result<(), String>,
+    pub judge: fn(Neighbours, &Ground, &[u8]) -> Result<(), String>,
+    /// Its worked examples, one a line.
+    pub examples: &'static str,
+}
+
+impl Call {
+    /// The call of these libraries.
+    pub fn of<'a>(
+        &'a self,
+        libraries: &'a Libraries,
+    ) -> impl Fn(u32, &[u8], &mut [u8]) -> u32 + 'a {
+        |neighbours, ground, room| (self.make)(libraries, neighbours, ground, room)
+    }
+
+    pub fn kinds(&self) -> impl Iterator<Item = &'static Kind> {
+        self.kinds.iter().copied().flatten()
+    }
 }
 
 /// All of them.
-pub const ALL: [&Call; 2] = [&NETWORK, &LAKES];
+pub const ALL: [&Call; 3] = [&NETWORK, &LAKES, &NETWORK_BY];
 
 /// The network of a ground record.
 pub const NETWORK: Call = Call {
     name: "askvimur_network",
-    of: |libraries| libraries.askvimur_network,
+    make: |libraries, _, ground, room| (libraries.askvimur_network)(ground, room),
     cases: cases::NETWORK,
     share: 100,
-    kinds: &[
-        refusal("1", 1),
-        refusal("2", 2),
-        refusal("3", 3),
-        refusal("4", 4),
-        refusal("5", 5),
-        refusal("6", 6),
-        refusal("7", 7),
-    ],
+    kinds: &[&OF_GROUND],
     meaning: "that length written",
     written: |answer| answer as usize,
     part: network_section,
     judge: demand3::judge,
+    examples: "",
 };
 
 /// The lakes of a ground record.
 pub const LAKES: Call = Call {
     name: "askvimur_lakes",
-    of: |libraries| libraries.askvimur_lakes,
+    make: |libraries, _, ground, room| (libraries.askvimur_lakes)(ground, room),
     cases: cases::LAKES,
     share: 30,
-    kinds: &[
-        refusal("1", 1),
-        refusal("2", 2),
-        refusal("3", 3),
-        refusal("4", 4),
-        refusal("5", 5),
-        refusal("6", 6),
-        refusal("7", 7),
-        refusal("10", 10),
-        Kind {
-            name: "10 before 3",
-            number: 10,
-            most_room: FEWEST_TOO_DEEP * LAKE - 1,
-        },
-    ],
+    kinds: &[&OF_GROUND, &OF_DEPTH],
     meaning: "that many lakes written",
     written: |answer| LAKE * answer as usize,
     part: lake_field,
-    judge: lake_laws::judge,
+    judge: |_, ground, list| lake_laws::judge(ground, list),
+    examples: include_str!("../../vectors/lakes.txt"),
 };
 
-/// So many lakes are there at least where one is 65 deep: each split has two groups or more.
-const FEWEST_TOO_DEEP: usize = 2 * 64 + 1;
-
-/// A kind of answer: a refusal, in some of them only with a room that would have been refused too.
-pub struct Kind {
-    pub name: &'static str,
-    number: u32,
-    most_room: usize,
-}
-
-const fn refusal(name: &'static str, number: u32) -> Kind {
-    Kind {
-        name,
-        number,
-        most_room: usize::MAX,
-    }
-}
-
-impl Kind {
-    /// Whether an answer with such a room is of this kind.
-    pub fn fits(&self, answer: u32, room: usize) -> bool {
-        answer / 65_536 == self.number && room <= self.most_room
-    }
-}
+/// The network of a ground record over the neighbours asked for.
+pub const NETWORK_BY: Call = Call {
+    name: "askvimur_network_by",
+    make: |libraries, neighbours, ground, room| {
+        (libraries.askvimur_network_by)(neighbours, ground, room)
+    },
+    cases: cases::NETWORK_BY,
+    share: 140,
+    kinds: &[&OF_GROUND, &OF_COUNT],
+    examples: include_str!("../../vectors/network_by.txt"),
+    ..NETWORK
+};
 
 /// The section of a network record that a byte belongs to, and its entry there.
 fn network_section(byte: usize, length: u32) -> String {
@@ -182,17 +172,5 @@ mod tests {
         ] {
             assert_eq!(lake_field(byte, 2), wanted);
         }
-    }
-
-    #[test]
-    fn a_kind_is_a_refusal_and_a_room() {
-        let [.., ten, ten_before_three] = LAKES.kinds else {
-            panic!("there are kinds");
-        };
-        let too_deep = 10 * 65_536 + 25;
-        assert!(ten.fits(too_deep, 70_000) && ten.fits(too_deep, 0));
-        assert!(ten_before_three.fits(too_deep, 2_063));
-        assert!(!ten_before_three.fits(too_deep, 2_064));
-        assert!(!ten.fits(3 * 65_536, 0) && !ten.fits(10, 0));
     }
 }

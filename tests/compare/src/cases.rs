@@ -1,36 +1,54 @@
-//! Cases: a seed and an index give one record, and the rooms that it is tried with.
+//! Cases: a seed and an index give one record, and the neighbours and the rooms that it is tried with.
 
 use second::lake_list::LAKE;
 use second::{network_record, record};
 
 use crate::chance::Chance;
+use crate::counts;
 use crate::damage::{Damage, Damaged, DAMAGES, LAKE_DAMAGES};
+use crate::diagonal_families::DIAGONAL_FAMILIES;
 use crate::families::{Family, FAMILIES};
 use crate::lake_families::LAKE_FAMILIES;
 
-/// Where the records of a call come from, and which rooms they are tried with.
+/// Where the records of a call come from, and what they are tried with.
 pub struct Cases {
     families: &'static [&'static [Family]],
     damages: &'static [&'static [Damage]],
+    /// How many neighbours are asked for with a record.
+    asked: fn(&mut Chance) -> u32,
     rooms: fn(&mut Chance, &Damaged) -> Vec<usize>,
     /// How many rooms that gives for each record.
     pub rooms_each: usize,
+    /// The counts of neighbours that can be asked for.
+    pub counts: &'static [u32],
 }
 
 /// For the network: room for a network record.
 pub const NETWORK: Cases = Cases {
     families: &[&FAMILIES],
     damages: &[&DAMAGES],
+    asked: |_| 4,
     rooms: network_rooms,
     rooms_each: 4,
+    counts: &[4],
+};
+
+/// For the network over the neighbours asked for.
+pub const NETWORK_BY: Cases = Cases {
+    families: &[&FAMILIES, &DIAGONAL_FAMILIES],
+    asked: counts::any,
+    counts: &counts::RIGHT,
+    ..NETWORK
 };
 
 /// For the lakes: room for the list.
 pub const LAKES: Cases = Cases {
     families: &[&FAMILIES, &LAKE_FAMILIES],
     damages: &[&DAMAGES, &LAKE_DAMAGES],
+    asked: |_| 4,
     rooms: lakes_rooms,
     rooms_each: 6,
+    counts: &[4],
 };
 
 /// One generated record. A call with one of its rooms is what the run counts as a case.
@@ -39,6 +57,8 @@ pub struct Specimen {
     pub seed: u64,
     pub index: u64,
     pub record: Vec<u8>,
+    /// How many neighbours are asked for, by a call that is told so.
+    pub neighbours: u32,
     pub rooms: Vec<usize>,
 }
 
@@ -64,6 +84,7 @@ impl Cases {
             index,
             rooms: (self.rooms)(&mut chance, &made),
             record: made.record,
+            neighbours: (self.asked)(&mut chance),
         }
     }
 }
@@ -105,13 +126,15 @@ fn lakes_rooms(chance: &mut Chance, made: &Damaged) -> Vec<usize> {
 #[cfg(test)]
 mod tests {
     use super::*;
+    use std::collections::HashMap;
 
     #[test]
     fn the_same_seed_and_index_give_the_same_record() {
-        for cases in [NETWORK, LAKES] {
+        for cases in [NETWORK, LAKES, NETWORK_BY] {
             for index in 0..200 {
                 let (one, other) = (cases.specimen(7, index), cases.specimen(7, index));
                 assert_eq!(one.record, other.record);
+                assert_eq!(one.neighbours, other.neighbours);
                 assert_eq!(one.rooms, other.rooms);
                 assert_eq!(one.rooms.len(), cases.rooms_each);
             }
@@ -120,7 +143,7 @@ mod tests {
 
     #[test]
     fn another_seed_gives_another_record() {
-        for cases in [NETWORK, LAKES] {
+        for cases in [NETWORK, LAKES, NETWORK_BY] {
             let differs =
                 |&index: &u64| cases.specimen(7, index).record != cases.specimen(8, index).record;
             assert!((0..200).filter(differs).count() > 150);
@@ -136,6 +159,22 @@ mod tests {
                 let judged = record::check(&specimen.record);
                 assert!(judged.is_ok(), "{} {index}: {judged:?}", specimen.family);
             }
+        }
+    }
+
+    /// Half of the records of each family come with 8 neighbours, a sixth with 4, the others with counts
+    /// that can't be asked for.
+    #[test]
+    fn every_family_comes_with_every_kind_of_count() {
+        let mut times: HashMap<(&str, Option<u32>), u32> = HashMap::new();
+        for index in 0..37 * 120 {
+            let specimen = NETWORK_BY.specimen(3, index);
+            let right = Some(specimen.neighbours).filter(|count| counts::RIGHT.contains(count));
+            *times.entry((specimen.family, right)).or_default() += 1;
+        }
+        assert_eq!(times.len(), 37 * 3);
+        for (kind, times) in times {
+            assert!(times >= 8, "{kind:?}: {times}");
         }
     }
 }

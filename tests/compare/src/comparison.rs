@@ -3,19 +3,20 @@
 
 use std::time::Instant;
 
+use second::neighbours::Neighbours;
 use second::record;
 
-use crate::calls::Call;
+use crate::calls::{Call, Made};
 use crate::cases::Specimen;
 use crate::difference::{first_differing_byte, Difference};
 use crate::lending::{Lent, WATCHED};
-use crate::library::{Library, SECOND};
+use crate::library::SECOND;
 use crate::tally::Tally;
 
 /// Tries a record with each of its rooms. The first difference is enough.
 pub fn compare(
     call: &'static Call,
-    library: Library,
+    library: &Made,
     specimen: &Specimen,
     tally: &mut Tally,
 ) -> Option<Difference> {
@@ -32,23 +33,24 @@ pub fn compare(
 /// One call to each side. What the first of a record's calls writes is judged by brute force too.
 fn compare_with_room(
     call: &'static Call,
-    library: Library,
+    library: &Made,
     specimen: &Specimen,
     (turn, room): (usize, usize),
     tally: &mut Tally,
 ) -> Option<Difference> {
+    let neighbours = specimen.neighbours;
     let lent = Lent::new(&specimen.record, room, specimen.index);
     let (mut found, mut wanted) = (lent.clone(), lent.clone());
     let start = Instant::now();
-    let answer = found.call(library);
+    let answer = found.call(|ground, room| library(neighbours, ground, room));
     let between = Instant::now();
-    let wanted_answer = wanted.call((call.of)(&SECOND));
+    let wanted_answer = wanted.call(|ground, room| (call.make)(&SECOND, neighbours, ground, room));
     let times = (between - start, between.elapsed());
-    tally.count(specimen.family, wanted_answer, room, times);
+    tally.count(specimen, room, wanted_answer, times);
     let what = disagreement(call, answer, &found, wanted_answer, &wanted)
         .or_else(|| broken_promise(call, answer, &found, &lent))
         .or_else(|| match turn {
-            0 => wrong_by_brute_force(call, answer, &found, &specimen.record),
+            0 => wrong_by_brute_force(call, answer, &found, specimen),
             _ => None,
         })?;
     Some(Difference {
@@ -56,6 +58,7 @@ fn compare_with_room(
         family: specimen.family,
         seed: specimen.seed,
         index: specimen.index,
+        neighbours,
         room,
         answer,
         wanted: wanted_answer,
@@ -119,15 +122,23 @@ fn altered_ground(byte: usize, lent: &Lent) -> String {
 }
 
 /// What is wrong with what an accepted call has written.
-fn wrong_by_brute_force(call: &Call, answer: u32, found: &Lent, record: &[u8]) -> Option<String> {
+fn wrong_by_brute_force(
+    call: &Call,
+    answer: u32,
+    found: &Lent,
+    specimen: &Specimen,
+) -> Option<String> {
     if answer >= 65_536 {
         return None;
     }
-    match record::read(record) {
-        Ok(ground) => (call.judge)(&ground, found.written((call.written)(answer)))
-            .err()
-            .map(|wrong| format!("by brute force: {wrong}")),
-        Err(_) => Some("a record that should be refused is accepted".to_string()),
+    let neighbours = Neighbours::asked_for(specimen.neighbours);
+    match (neighbours, record::read(&specimen.record)) {
+        (Ok(neighbours), Ok(ground)) => {
+            let written = found.written((call.written)(answer));
+            let judged = (call.judge)(neighbours, &ground, written);
+            judged.err().map(|wrong| format!("by brute force: {wrong}"))
+        }
+        _ => Some("what should be refused is accepted".to_string()),
     }
 }
 

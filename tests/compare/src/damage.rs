@@ -152,7 +152,7 @@ fn spoil_size(chance: &mut Chance, mut record: Vec<u8>) -> Vec<u8> {
 
 /// A record that is right in everything but its width or its height, which is 65 or a little more.
 fn size_just_too_large(chance: &mut Chance) -> Damaged {
-    let (long, short) = (65 + chance.below(3), 1 + chance.below(3));
+    let (long, short) = (chance.pick(&[65, 65, 66, 67]), 1 + chance.below(3));
     let (width, height) = chance.pick(&[(long, short), (short, long)]);
     let size = Size { width, height };
     let ground = ground(chance, size, reliefs::random, outlets::any);
@@ -196,7 +196,7 @@ fn spoil_length(chance: &mut Chance, mut record: Vec<u8>) -> Vec<u8> {
     record
 }
 
-/// One of the three distances wrong: a little, a bit, altogether, or another one's.
+/// One of the three distances wrong: a little, in its upper half, a bit, altogether, or another one's.
 fn spoil_distance(chance: &mut Chance, mut record: Vec<u8>) -> Vec<u8> {
     let Some(trailer) = trailer(&record) else {
         return record;
@@ -204,12 +204,13 @@ fn spoil_distance(chance: &mut Chance, mut record: Vec<u8>) -> Vec<u8> {
     let which = chance.below(3);
     let named = record::distances_named(&record);
     let right = named[which];
-    let wrong = match chance.below(6) {
+    let wrong = match chance.below(7) {
         0 => right.wrapping_add(1),
         1 => right.wrapping_sub(1),
-        2 => 0,
+        2 => right.wrapping_add(65_536),
         3 => right ^ (1 << chance.below(32)),
         4 => named[(which + 1) % 3],
+        5 => 0,
         _ => chance.number() as u32,
     };
     let at = trailer + 4 + 4 * which;

@@ -1,11 +1,13 @@
-//! Demand 3 by brute force, on nothing but the ground and the bytes that came back.
-//! Every way reaches an outlet, every level is the least that can be, and no water is lost.
-//! Rule 10 is judged with it: a cell is wet exactly if every way out climbs above its ground.
+//! Demand 3 by brute force, on nothing but the ground, the neighbours asked for and the bytes that came
+//! back. Every way reaches an outlet, every level is the least that can be, and no water is lost.
+//! Rule 10 is judged with it: a cell is wet exactly if every way out climbs above its ground. So is a
+//! law across counts: no level with 8 neighbours is above that with 4.
 
 use std::cmp::Reverse;
 use std::collections::BinaryHeap;
 
 use second::ground::{Cell, Ground};
+use second::neighbours::Neighbours;
 
 /// The sections that are judged.
 struct Returned<'a> {
@@ -16,14 +18,18 @@ struct Returned<'a> {
 }
 
 /// Judges a network record that was returned for a ground. An error says what is wrong.
-pub fn judge(ground: &Ground, network: &[u8]) -> Result<(), String> {
+pub fn judge(neighbours: Neighbours, ground: &Ground, network: &[u8]) -> Result<(), String> {
     let returned = read(ground, network);
-    let least = least_highest_points(ground);
-    judge_steps(ground, &returned.receivers)?;
+    let least = least_highest_points(neighbours, ground);
+    judge_steps(neighbours, ground, &returned.receivers)?;
     judge_ways(ground, &returned.receivers, &least)?;
     judge_levels(&returned.levels, &least)?;
     judge_wet(ground, returned.wet, &least)?;
-    judge_drainage(ground, &returned)
+    judge_drainage(ground, &returned)?;
+    match neighbours {
+        Neighbours::Four => Ok(()),
+        Neighbours::Eight => judge_across_counts(ground, &returned.levels),
+    }
 }
 
 /// Reads four sections straight from their stretches of the record.
@@ -47,14 +53,13 @@ fn read<'a>(ground: &Ground, network: &'a [u8]) -> Returned<'a> {
 }
 
 /// Each step goes to a neighbour, and an outlet's receiver is itself.
-fn judge_steps(ground: &Ground, receivers: &[usize]) -> Result<(), String> {
+fn judge_steps(neighbours: Neighbours, ground: &Ground, receivers: &[usize]) -> Result<(), String> {
     for cell in ground.cells() {
         let receiver = receivers[cell.index()];
         let allowed = match ground.is_outlet(cell) {
             true => receiver == cell.index(),
-            false => ground
-                .size
-                .neighbours(cell)
+            false => neighbours
+                .of(cell, ground.size)
                 .any(|neighbour| neighbour.index() == receiver),
         };
         if !allowed {
@@ -119,7 +124,7 @@ fn judge_wet(ground: &Ground, wet: &[u8], least: &[i32]) -> Result<(), String> {
 }
 
 /// Spreads from the outlets, always on from the lowest point reached so far.
-pub fn least_highest_points(ground: &Ground) -> Vec<i32> {
+pub fn least_highest_points(neighbours: Neighbours, ground: &Ground) -> Vec<i32> {
     let mut found: Vec<Option<i32>> = vec![None; ground.size.cells()];
     let mut reached: BinaryHeap<Reverse<(i32, Cell)>> = ground
         .cells()
@@ -131,7 +136,7 @@ pub fn least_highest_points(ground: &Ground) -> Vec<i32> {
             continue;
         }
         found[cell.index()] = Some(point);
-        for neighbour in ground.size.neighbours(cell) {
+        for neighbour in neighbours.of(cell, ground.size) {
             let beyond = point.max(ground.height(neighbour));
             reached.push(Reverse((beyond, neighbour)));
         }
@@ -140,6 +145,19 @@ pub fn least_highest_points(ground: &Ground) -> Vec<i32> {
         .into_iter()
         .map(|point| point.expect("every cell of a tile can be reached"))
         .collect()
+}
+
+/// With 8 neighbours there are all the ways that there are with 4, so no level is above the one that
+/// these have.
+fn judge_across_counts(ground: &Ground, levels: &[i32]) -> Result<(), String> {
+    let with_4 = least_highest_points(Neighbours::Four, ground);
+    match (0..levels.len()).find(|&cell| levels[cell] > with_4[cell]) {
+        None => Ok(()),
+        Some(cell) => Err(format!(
+            "the level of cell {cell} is {} with 8 neighbours, and {} with 4",
+            levels[cell], with_4[cell]
+        )),
+    }
 }
 
 /// Each cell passes on its own water and all that it receives; the outlets get all there is.
@@ -209,7 +227,11 @@ mod tests {
     #[test]
     fn sample_g_is_accepted() {
         assert_eq!(
-            judge(&ground(), &network(RECEIVERS, LEVELS, DRAINAGE)),
+            judge(
+                Neighbours::Four,
+                &ground(),
+                &network(RECEIVERS, LEVELS, DRAINAGE)
+            ),
             Ok(())
         );
     }
@@ -217,26 +239,32 @@ mod tests {
     #[test]
     fn a_ring_is_refused() {
         let ring = network([0, 2, 1, 4, 5, 5], LEVELS, DRAINAGE);
-        assert!(judge(&ground(), &ring).unwrap_err().contains("twice"));
+        assert!(judge(Neighbours::Four, &ground(), &ring)
+            .unwrap_err()
+            .contains("twice"));
     }
 
     #[test]
     fn a_leap_is_refused() {
         let leap = network([0, 5, 3, 4, 5, 5], LEVELS, DRAINAGE);
-        assert!(judge(&ground(), &leap).unwrap_err().contains("receive to"));
+        assert!(judge(Neighbours::Four, &ground(), &leap)
+            .unwrap_err()
+            .contains("receive to"));
     }
 
     #[test]
     fn a_way_over_higher_ground_is_refused() {
         let over_the_top = network([0, 0, 1, 2, 5, 5], LEVELS, DRAINAGE);
-        let wrong = judge(&ground(), &over_the_top).unwrap_err();
+        let wrong = judge(Neighbours::Four, &ground(), &over_the_top).unwrap_err();
         assert!(wrong.contains("climbs to 7, and 5 is enough"));
     }
 
     #[test]
     fn a_level_too_high_is_refused() {
         let too_high = network(RECEIVERS, [7, 7, 5, 5, 5, 0], DRAINAGE);
-        assert!(judge(&ground(), &too_high).unwrap_err().contains("level"));
+        assert!(judge(Neighbours::Four, &ground(), &too_high)
+            .unwrap_err()
+            .contains("level"));
     }
 
     #[test]
@@ -245,7 +273,9 @@ mod tests {
         for cell in 0..6 {
             let mut wrong = right.clone();
             wrong[14 * 6 + cell] ^= 1;
-            assert!(judge(&ground(), &wrong).unwrap_err().contains("wet"));
+            assert!(judge(Neighbours::Four, &ground(), &wrong)
+                .unwrap_err()
+                .contains("wet"));
         }
     }
 
@@ -259,14 +289,67 @@ mod tests {
         };
         let mut bytes = network([0, 0, 1, 2, 3, 4], [0; 6], [6, 5, 4, 3, 2, 1]);
         bytes[14 * 6..].fill(0);
-        assert_eq!(judge(&level, &bytes), Ok(()));
+        assert_eq!(judge(Neighbours::Four, &level, &bytes), Ok(()));
         bytes[14 * 6 + 1..].fill(1);
-        assert!(judge(&level, &bytes).unwrap_err().contains("wet"));
+        assert!(judge(Neighbours::Four, &level, &bytes)
+            .unwrap_err()
+            .contains("wet"));
+    }
+
+    /// Sample G has one row, and no corners to go over.
+    #[test]
+    fn sample_g_is_accepted_with_8_neighbours() {
+        let network = network(RECEIVERS, LEVELS, DRAINAGE);
+        assert_eq!(judge(Neighbours::Eight, &ground(), &network), Ok(()));
+    }
+
+    /// Two rows: the outlet, and across the corner from it cell 4, between higher ones.
+    fn two_rows() -> Ground {
+        Ground {
+            size: Size {
+                width: 3,
+                height: 2,
+            },
+            heights: vec![0, 5, 5, 5, 1, 5],
+            marks: vec![1, 0, 0, 0, 0, 0],
+            water: vec![1; 6],
+        }
+    }
+
+    /// What is judged of the two rows: cell 4 receives to cell 0 or to cell 1, and has this level.
+    fn judged(neighbours: Neighbours, receiver: u16, level: i32) -> Result<(), String> {
+        let drainage = match receiver {
+            0 => [6, 1, 1, 1, 3, 1],
+            _ => [6, 4, 1, 1, 3, 1],
+        };
+        let levels = [0, 5, 5, 5, level, 5];
+        let mut bytes = network([0, 0, 4, 0, receiver, 4], levels, drainage);
+        bytes[14 * 6..].copy_from_slice(&[0, 0, 0, 0, u8::from(level > 1), 0]);
+        judge(neighbours, &two_rows(), &bytes)
+    }
+
+    #[test]
+    fn ways_run_over_the_neighbours_asked_for() {
+        let (four, eight) = (Neighbours::Four, Neighbours::Eight);
+        assert_eq!(judged(eight, 0, 1), Ok(()));
+        assert!(judged(four, 0, 1).unwrap_err().contains("2 can't receive"));
+        assert!(judged(eight, 1, 5).unwrap_err().contains("1 is enough"));
+        assert!(judged(eight, 0, 5).unwrap_err().contains("level"));
+    }
+
+    #[test]
+    fn no_level_may_be_above_that_with_4() {
+        let across = |level| judge_across_counts(&two_rows(), &[0, 5, 5, 5, level, 5]);
+        assert_eq!(across(1), Ok(()));
+        assert_eq!(across(5), Ok(()));
+        assert!(across(6).unwrap_err().contains("6 with 8"));
     }
 
     #[test]
     fn lost_water_is_refused() {
         let lost = network(RECEIVERS, LEVELS, [1, 1, 2, 3, 4, 4]);
-        assert!(judge(&ground(), &lost).unwrap_err().contains("drainage"));
+        assert!(judge(Neighbours::Four, &ground(), &lost)
+            .unwrap_err()
+            .contains("drainage"));
     }
 }

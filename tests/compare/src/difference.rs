@@ -10,6 +10,7 @@ pub struct Difference {
     pub family: &'static str,
     pub seed: u64,
     pub index: u64,
+    pub neighbours: u32,
     pub room: usize,
     pub answer: u32,
     pub wanted: u32,
@@ -23,12 +24,14 @@ impl fmt::Display for Difference {
             family,
             seed,
             index,
+            neighbours,
             room,
             ..
         } = self;
         writeln!(
             to,
-            "difference: {name}, seed {seed}, family {family}, index {index}, room {room}"
+            "difference: {name}, seed {seed}, family {family}, index {index}, \
+             neighbours {neighbours}, room {room}"
         )?;
         writeln!(to, "  library:        {}", in_words(self.answer, meaning))?;
         writeln!(to, "  second program: {}", in_words(self.wanted, meaning))?;

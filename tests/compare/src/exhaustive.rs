@@ -3,11 +3,10 @@
 use second::ground::{Ground, Size};
 use second::record;
 
-use crate::calls::Call;
+use crate::calls::{Call, Made};
 use crate::cases::Specimen;
 use crate::comparison::compare;
 use crate::difference::Difference;
-use crate::library::Library;
 use crate::tally::Tally;
 
 /// The name under which these tiles are counted.
@@ -15,6 +14,11 @@ pub const NAME: &str = "every 3 by 3";
 
 /// How many such tiles there are.
 pub const TILES: u64 = 19_683 * 9;
+
+/// How many cases they make for a call.
+pub fn cases(call: &Call) -> u64 {
+    TILES * call.cases.counts.len() as u64
+}
 
 /// The tile with this number, 0 to 177,146.
 pub fn tile(number: u64) -> Ground {
@@ -41,21 +45,25 @@ pub fn tile(number: u64) -> Ground {
 /// Room for the network record of such a tile. No list of its lakes is as long.
 const ROOM: usize = 15 * 9 + 28;
 
-/// Compares one of these tiles.
+/// Compares one of these tiles, with all neighbours that can be asked for.
 pub fn compare_tile(
     call: &'static Call,
-    library: Library,
+    library: &Made,
     number: u64,
     tally: &mut Tally,
 ) -> Option<Difference> {
-    let specimen = Specimen {
-        family: NAME,
-        seed: 0,
-        index: number,
-        record: record::bytes(&tile(number)),
-        rooms: vec![ROOM],
+    let compare = |&neighbours: &u32| {
+        let specimen = Specimen {
+            family: NAME,
+            seed: 0,
+            index: number,
+            record: record::bytes(&tile(number)),
+            neighbours,
+            rooms: vec![ROOM],
+        };
+        compare(call, library, &specimen, tally)
     };
-    compare(call, library, &specimen, tally)
+    call.cases.counts.iter().find_map(compare)
 }
 
 #[cfg(test)]

@@ -87,6 +87,15 @@ pub fn any_size(chance: &mut Chance) -> Size {
     }
 }
 
+/// Width and height, each between the two.
+pub fn sides(chance: &mut Chance, least: usize, greatest: usize) -> Size {
+    let mut side = || least + chance.below(greatest - least + 1);
+    Size {
+        width: side(),
+        height: side(),
+    }
+}
+
 /// A ground of any family, for damage to start from.
 pub fn any_ground(chance: &mut Chance) -> Ground {
     let size = any_size(chance);

@@ -3,7 +3,7 @@
 use second::ground::{Ground, Size, HEIGHTS};
 
 use crate::chance::Chance;
-use crate::families::{family, ground, water, Family};
+use crate::families::{family, ground, sides, water, Family};
 use crate::outlets;
 use crate::reliefs::{self, Relief};
 
@@ -61,15 +61,6 @@ pub const LAKE_FAMILIES: [Family; 11] = [
     }),
     family("the ends of the range", ends_of_range),
 ];
-
-/// Width and height, each between the two.
-fn sides(chance: &mut Chance, least: usize, greatest: usize) -> Size {
-    let mut side = || least + chance.below(greatest - least + 1);
-    Size {
-        width: side(),
-        height: side(),
-    }
-}
 
 /// How high the sills of a corridor are, from the outlet inwards: so many numbers from 1, none above
 /// their count.

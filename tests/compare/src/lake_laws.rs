@@ -3,6 +3,7 @@
 
 use second::ground::Ground;
 use second::lake_list::LAKE;
+use second::neighbours::Neighbours;
 
 use crate::demand3::least_highest_points;
 
@@ -16,7 +17,7 @@ struct Returned {
 
 /// Judges a list that was returned for a ground. An error says what is wrong.
 pub fn judge(ground: &Ground, list: &[u8]) -> Result<(), String> {
-    let points = least_highest_points(ground);
+    let points = least_highest_points(Neighbours::Four, ground);
     let lakes: Vec<Returned> = list.chunks_exact(LAKE).map(read).collect();
     lakes
         .iter()

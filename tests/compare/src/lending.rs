@@ -2,8 +2,6 @@
 
 use std::hint::black_box;
 
-use crate::library::Library;
-
 /// At least so many watched bytes stand before and after what is lent.
 pub const WATCHED: usize = 64;
 
@@ -34,7 +32,7 @@ impl Lent {
     }
 
     /// Calls the library. What it did to any lent or watched byte is there to be seen after.
-    pub fn call(&mut self, library: Library) -> u32 {
+    pub fn call(&mut self, library: impl FnOnce(&[u8], &mut [u8]) -> u32) -> u32 {
         let record_end = self.ground.len() - WATCHED;
         let ground = &self.ground[self.before..record_end];
         let room = &mut self.output[self.before..self.before + self.room];

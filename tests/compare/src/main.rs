@@ -70,15 +70,18 @@ fn run_call(arguments: &Arguments, call: &'static Call) -> Tally {
     let seed = arguments.seed;
     let cases = arguments.cases.unwrap_or(DEFAULT_CASES) * call.share / 100;
     let records = cases.div_ceil(call.cases.rooms_each as u64);
-    let library = (call.of)(&under_test());
+    let libraries = under_test();
+    let library = call.of(&libraries);
     let mut tally = Tally::of(call);
-    let mut progress = Progress::new(arguments, cases + exhaustive::TILES);
+    let mut progress = Progress::new(arguments, cases + exhaustive::cases(call));
     for index in 0..records {
         let specimen = call.cases.specimen(seed, index);
         if arguments.name_each {
-            eprintln!("{}, family {}, index {index}", call.name, specimen.family);
+            let (family, neighbours) = (specimen.family, specimen.neighbours);
+            let name = call.name;
+            eprintln!("{name}, family {family}, index {index}, neighbours {neighbours}");
         }
-        let difference = compare(call, library, &specimen, &mut tally);
+        let difference = compare(call, &library, &specimen, &mut tally);
         print_difference(difference, &tally);
         progress.say(tally.cases(), tally.differences);
     }
@@ -99,13 +102,18 @@ fn often_enough(arguments: &Arguments, tally: &Tally) -> bool {
 
 /// How many worked examples there are, and how many of them the library does not do.
 fn worked_examples() -> (u64, u64) {
-    let examples = worked::lakes();
-    let wrong = worked::wrong_lines(&examples, under_test().askvimur_lakes);
-    println!("worked examples: {}, of lakes", examples.len());
-    for line in wrong.iter().take(MOST_PRINTED as usize) {
-        println!("difference: line {line} of the worked examples of lakes");
+    let (mut lines, mut differences) = (0, 0);
+    for call in calls::ALL.iter().filter(|call| worked::count(call) > 0) {
+        let name = call.name;
+        let wrong = worked::wrong_lines(call, &call.of(&under_test()));
+        println!("worked examples of {name}: {}", worked::count(call));
+        for line in wrong.iter().take(MOST_PRINTED as usize) {
+            println!("difference: line {line} of the worked examples of {name}");
+        }
+        lines += worked::count(call) as u64;
+        differences += wrong.len() as u64;
     }
-    (examples.len() as u64, wrong.len() as u64)
+    (lines, differences)
 }
 
 fn every_3_by_3(arguments: &Arguments) -> bool {
@@ -113,7 +121,7 @@ fn every_3_by_3(arguments: &Arguments) -> bool {
     let (mut cases, mut differences) = (0, 0);
     for call in calls::ALL {
         let mut tally = Tally::of(call);
-        let mut progress = Progress::new(arguments, exhaustive::TILES);
+        let mut progress = Progress::new(arguments, exhaustive::cases(call));
         compare_every_3_by_3(call, &mut tally, &mut progress);
         println!("{tally}");
         cases += tally.cases();
@@ -123,9 +131,10 @@ fn every_3_by_3(arguments: &Arguments) -> bool {
 }
 
 fn compare_every_3_by_3(call: &'static Call, tally: &mut Tally, progress: &mut Progress) {
-    let library = (call.of)(&under_test());
+    let libraries = under_test();
+    let library = call.of(&libraries);
     for number in 0..exhaustive::TILES {
-        let difference = exhaustive::compare_tile(call, library, number, tally);
+        let difference = exhaustive::compare_tile(call, &library, number, tally);
         print_difference(difference, tally);
         progress.say(tally.cases(), tally.differences);
     }
@@ -194,7 +203,7 @@ fn mutants(arguments: &Arguments) -> bool {
     for (call, wrong) in mutants::all() {
         println!("{:<60}{:>8}", format!("wrong {}", call.name), "cases");
         caught.extend(wrong.iter().map(|mutant| {
-            let caught = mutants::caught_after(call, mutant.wrong, seed, most);
+            let caught = mutants::caught_after(call, &mutant.wrong, seed, most);
             print_caught(mutant.name, caught)
         }));
     }

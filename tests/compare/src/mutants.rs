@@ -2,12 +2,12 @@
 //! is one for each kind of fault. A harness that lets one of them through would prove nothing about
 //! the real library.
 
-/// A library with some stages exchanged for wrong ones.
+/// A network call with some stages exchanged for wrong ones.
 macro_rules! with {
     ($($stage:ident: $wrong:expr),+ $(,)?) => {
-        |ground, network| {
+        |neighbours, ground, network| {
             let stages = $crate::mutants::Stages { $($stage: $wrong,)+ ..$crate::mutants::RIGHT };
-            $crate::mutants::call(&stages, ground, network)
+            $crate::mutants::call(&stages, neighbours, ground, network)
         }
     };
 }
@@ -19,6 +19,8 @@ macro_rules! mutants {
     };
 }
 
+mod counting;
+mod diagonals;
 pub mod following;
 mod judging;
 mod lake_stages;
@@ -31,14 +33,14 @@ use second::carving::{carve, outflows, Outflow};
 use second::first_receivers::first_receivers;
 use second::flow::{drainage, levels, order, wet};
 use second::ground::{Cell, Ground, Size};
+use second::neighbours::Neighbours;
 use second::network::Network;
 use second::network_record;
 use second::passes::{chosen_passes, crossings, passes, Crossing};
 use second::refusal::Refusal;
 
-use crate::calls::{self, Call};
+use crate::calls::{self, Call, Made};
 use crate::comparison::compare;
-use crate::library::Library;
 use crate::tally::Tally;
 
 /// Within so many cases every mutant has to be caught.
@@ -51,22 +53,56 @@ pub struct Mutant<W> {
     pub wrong: W,
 }
 
-/// A call, and every wrong library for it.
-pub type WrongCalls = (&'static Call, Vec<Mutant<Library>>);
+/// A network call once the count of neighbours has been judged, if it is told one.
+type NetworkCall = fn(Neighbours, &[u8], &mut [u8]) -> u32;
 
-/// Each call with its wrong libraries.
-pub fn all() -> [WrongCalls; 2] {
-    let of_network = [network::MUTANTS, judging::MUTANTS, writing::MUTANTS].concat();
+/// A call, and every wrong library for it.
+pub type WrongCalls = (&'static Call, Vec<Mutant<Box<Made<'static>>>>);
+
+/// Each call with its wrong libraries. What a network can have wrong, both network calls can.
+pub fn all() -> [WrongCalls; 3] {
+    let networks = [network::MUTANTS, judging::MUTANTS, writing::MUTANTS].concat();
+    let of_network = made(&networks, |wrong, _, ground, room| {
+        wrong(Neighbours::Four, ground, room)
+    });
+    let of_lakes = made(lakes::MUTANTS, |wrong, _, ground, room| wrong(ground, room));
+    let mut of_network_by = made(&networks, count_judged);
+    of_network_by.extend(made(diagonals::MUTANTS, count_judged));
+    of_network_by.extend(made(counting::MUTANTS, |wrong, count, ground, room| {
+        wrong(count, ground, room)
+    }));
     [
         (&calls::NETWORK, of_network),
-        (&calls::LAKES, lakes::MUTANTS.to_vec()),
+        (&calls::LAKES, of_lakes),
+        (&calls::NETWORK_BY, of_network_by),
     ]
+}
+
+/// Wrong libraries as the comparison makes their calls: given the count, the record and the room.
+fn made<W: Copy + 'static>(
+    mutants: &[Mutant<W>],
+    call: fn(W, u32, &[u8], &mut [u8]) -> u32,
+) -> Vec<Mutant<Box<Made<'static>>>> {
+    let made = |&Mutant { name, wrong }: &Mutant<W>| {
+        let wrong: Box<Made> =
+            Box::new(move |count, ground, room| call(wrong, count, ground, room));
+        Mutant { name, wrong }
+    };
+    mutants.iter().map(made).collect()
+}
+
+/// A network call with the count judged before it, as it should be.
+fn count_judged(call: NetworkCall, count: u32, ground: &[u8], room: &mut [u8]) -> u32 {
+    match Neighbours::asked_for(count) {
+        Ok(neighbours) => call(neighbours, ground, room),
+        Err(refusal) => refusal.answer(),
+    }
 }
 
 /// After how many cases of the call's families a library is caught, if it is.
 pub fn caught_after(
     call: &'static Call,
-    library: Library,
+    library: &Made,
     seed: u64,
     most_cases: u64,
 ) -> Option<u64> {
@@ -89,9 +125,9 @@ type Carve = fn(&[Option<Cell>], &[Option<Outflow>]) -> Vec<Cell>;
 /// The second program's stages, each of which a mutant may exchange for a wrong one.
 struct Stages {
     judge: fn(&[u8], usize) -> Result<Ground, Refusal>,
-    first_receivers: fn(&Ground) -> Vec<Option<Cell>>,
+    first_receivers: fn(Neighbours, &Ground) -> Vec<Option<Cell>>,
     basins: fn(&[Option<Cell>]) -> Basins,
-    crossings: fn(&Ground, &Basins) -> Vec<Crossing>,
+    crossings: fn(Neighbours, &Ground, &Basins) -> Vec<Crossing>,
     passes: fn(&[Crossing], &Basins) -> Vec<Crossing>,
     chosen_passes: fn(&[Crossing], &Basins, &Ground) -> Vec<Crossing>,
     outflows: fn(&[Crossing], &Basins, &Ground) -> Vec<Option<Outflow>>,
@@ -120,11 +156,16 @@ const RIGHT: Stages = Stages {
 };
 
 /// The C call with these stages.
-fn call(stages: &Stages, record: &[u8], room: &mut [u8]) -> u32 {
+fn call(stages: &Stages, neighbours: Neighbours, record: &[u8], room: &mut [u8]) -> u32 {
     match (stages.judge)(record, room.len()) {
-        Ok(ground) => write(&stages.network(&ground), ground.size, room),
+        Ok(ground) => write(&stages.network(neighbours, &ground), ground.size, room),
         Err(refusal) => refusal.answer(),
     }
+}
+
+/// The C call as it should be.
+fn right(neighbours: Neighbours, record: &[u8], room: &mut [u8]) -> u32 {
+    call(&RIGHT, neighbours, record, room)
 }
 
 /// Writes as much of the record as there is room for.
@@ -137,10 +178,10 @@ fn write(network: &Network, size: Size, room: &mut [u8]) -> u32 {
 
 impl Stages {
     /// The network that these stages give.
-    fn network(&self, ground: &Ground) -> Network {
-        let first_receivers = (self.first_receivers)(ground);
+    fn network(&self, neighbours: Neighbours, ground: &Ground) -> Network {
+        let first_receivers = (self.first_receivers)(neighbours, ground);
         let basins = (self.basins)(&first_receivers);
-        let crossings = (self.crossings)(ground, &basins);
+        let crossings = (self.crossings)(neighbours, ground, &basins);
         let passes = (self.passes)(&crossings, &basins);
         let chosen = (self.chosen_passes)(&passes, &basins, ground);
         let outflows = (self.outflows)(&chosen, &basins, ground);
@@ -163,19 +204,25 @@ impl Stages {
 #[cfg(test)]
 mod tests {
     use super::*;
+    use crate::library::SECOND;
 
     #[test]
     fn the_right_stages_are_not_caught() {
-        let right: [(_, Library); 4] = [
-            (&calls::NETWORK, |ground, room| call(&RIGHT, ground, room)),
-            (&calls::NETWORK, second::call),
-            (&calls::LAKES, |ground, room| {
+        let staged: [(_, &Made); 3] = [
+            (&calls::NETWORK, &|_, ground, room| {
+                right(Neighbours::Four, ground, room)
+            }),
+            (&calls::LAKES, &|_, ground, room| {
                 lake_stages::call(&lake_stages::RIGHT, ground, room)
             }),
-            (&calls::LAKES, second::lakes_call),
+            (&calls::NETWORK_BY, &|count, ground, room| {
+                count_judged(right, count, ground, room)
+            }),
         ];
-        for (call, library) in right {
-            assert_eq!(caught_after(call, library, 1, MOST_CASES), None);
+        for (call, staged) in staged {
+            assert_eq!(caught_after(call, staged, 1, MOST_CASES), None);
+            let second = call.of(&SECOND);
+            assert_eq!(caught_after(call, &second, 1, MOST_CASES), None);
         }
     }
 
@@ -183,7 +230,7 @@ mod tests {
     fn every_mutant_is_caught() {
         for (call, mutants) in all() {
             for (mutant, seed) in mutants.iter().flat_map(|mutant| [(mutant, 1), (mutant, 2)]) {
-                let caught = caught_after(call, mutant.wrong, seed, MOST_CASES);
+                let caught = caught_after(call, &mutant.wrong, seed, MOST_CASES);
                 assert!(caught.is_some(), "seed {seed} misses: {}", mutant.name);
             }
         }
@@ -202,9 +249,9 @@ mod tests {
             "rule 5: each basin over its own lowest pass",
             "rule 6: near cell not joined to far cell",
         ] {
-            let [(call, mutants), _] = all();
+            let [(call, mutants), ..] = all();
             let mutant = mutants.iter().find(|mutant| mutant.name == name);
-            let library = mutant.unwrap_or_else(|| panic!("no {name}")).wrong;
+            let library = &mutant.unwrap_or_else(|| panic!("no {name}")).wrong;
             let caught = caught_after(call, library, 3, 100);
             assert!(caught.is_some(), "missed: {name}");
         }

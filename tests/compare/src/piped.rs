@@ -13,13 +13,20 @@ pub const VARIABLE: &str = "ASKVIMUR_CALL";
 
 pub const LIBRARIES: Libraries = Libraries {
     description: "the C calls of libaskvimur.a and libaskvimur_service.a, behind a pipe",
-    askvimur_network: |ground, network| called(NETWORK, ground, network),
-    askvimur_lakes: |ground, lakes| called(LAKES, ground, lakes),
+    askvimur_network: |ground, network| called(NETWORK, NOT_ASKED, ground, network),
+    askvimur_lakes: |ground, lakes| called(LAKES, NOT_ASKED, ground, lakes),
+    askvimur_network_by: |neighbours, ground, network| {
+        called(NETWORK_BY, neighbours, ground, network)
+    },
 };
 
 /// The numbers by which the program knows the calls.
 const NETWORK: u32 = 0;
 const LAKES: u32 = 1;
+const NETWORK_BY: u32 = 2;
+
+/// What stands in the place of the neighbours for a call that isn't told them.
+const NOT_ASKED: u32 = 0;
 
 /// The running program and its two pipes.
 struct Pipe {
@@ -34,14 +41,14 @@ pub fn is_named() -> bool {
 }
 
 /// Makes the call there. A byte that is altered without having been lent ends the comparison.
-fn called(number: u32, ground: &[u8], room: &mut [u8]) -> u32 {
+fn called(number: u32, neighbours: u32, ground: &[u8], room: &mut [u8]) -> u32 {
     static PIPE: OnceLock<Mutex<Pipe>> = OnceLock::new();
     let pipe =
         PIPE.get_or_init(|| Mutex::new(started().expect("the program behind the pipe starts")));
     let (answer, kept) = pipe
         .lock()
         .expect("no call before this one panicked")
-        .call(number, ground, room)
+        .call([number, neighbours], ground, room)
         .expect("the program behind the pipe answers");
     assert!(kept, "a byte that was not lent for writing is altered");
     answer
@@ -61,10 +68,16 @@ fn started() -> io::Result<Pipe> {
 }
 
 impl Pipe {
-    /// The answer, and whether every byte that was not lent for writing is as it was.
-    fn call(&mut self, number: u32, ground: &[u8], room: &mut [u8]) -> io::Result<(u32, bool)> {
-        let mut call = Vec::with_capacity(12 + ground.len() + room.len());
-        for number in [number, ground.len() as u32, room.len() as u32] {
+    /// The answer, and whether every byte that was not lent for writing is as it was. The number of the
+    /// call and the neighbours asked for come first.
+    fn call(
+        &mut self,
+        [number, neighbours]: [u32; 2],
+        ground: &[u8],
+        room: &mut [u8],
+    ) -> io::Result<(u32, bool)> {
+        let mut call = Vec::with_capacity(16 + ground.len() + room.len());
+        for number in [number, neighbours, ground.len() as u32, room.len() as u32] {
             call.extend(number.to_le_bytes());
         }
         call.extend_from_slice(ground);

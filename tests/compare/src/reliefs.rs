@@ -32,7 +32,7 @@ pub fn each_cell(size: Size, mut height: impl FnMut(i32, i32) -> i32) -> Vec<i32
 }
 
 /// A height to build upon, often zero, sometimes near an end of the range.
-fn base(chance: &mut Chance) -> i32 {
+pub fn base(chance: &mut Chance) -> i32 {
     chance.pick(&[0, 0, 0, -1, 1000, -70_000, 7_990_000, -7_990_000])
 }
 

@@ -4,6 +4,7 @@ use std::fmt;
 use std::time::Duration;
 
 use crate::calls::Call;
+use crate::cases::Specimen;
 
 /// What one family came to.
 #[derive(Clone, Debug)]
@@ -30,28 +31,29 @@ impl Tally {
         Tally {
             call,
             rows: Vec::new(),
-            kinds: vec![0; call.kinds.len()],
+            kinds: vec![0; call.kinds().count()],
             differences: 0,
         }
     }
 
-    /// Counts one case by the second program's answer, with the times of library and second program.
+    /// Counts a case with this room by the second program's answer, with the times of library and
+    /// second program.
     pub fn count(
         &mut self,
-        family: &'static str,
-        answer: u32,
+        specimen: &Specimen,
         room: usize,
+        answer: u32,
         (library, second): (Duration, Duration),
     ) {
-        let row = self.row(family);
+        let row = self.row(specimen.family);
         row.library += library;
         row.second += second;
         match answer < 65_536 {
             true => row.accepted += 1,
             false => row.refused += 1,
         }
-        for (kind, times) in self.call.kinds.iter().zip(&mut self.kinds) {
-            *times += u64::from(kind.fits(answer, room));
+        for (kind, times) in self.call.kinds().zip(&mut self.kinds) {
+            *times += u64::from(kind.fits(answer, &specimen.record, room));
         }
     }
 
@@ -77,7 +79,7 @@ impl Tally {
 
     /// The kind of refusal given least often, and how often.
     pub fn rarest_refusal(&self) -> (&'static str, u64) {
-        let counted = self.call.kinds.iter().zip(&self.kinds);
+        let counted = self.call.kinds().zip(&self.kinds);
         counted
             .map(|(kind, &times)| (kind.name, times))
             .min_by_key(|&(_, times)| times)
@@ -104,7 +106,7 @@ impl fmt::Display for Tally {
             )?;
         }
         write!(to, "refusals")?;
-        for (kind, times) in self.call.kinds.iter().zip(&self.kinds) {
+        for (kind, times) in self.call.kinds().zip(&self.kinds) {
             write!(to, "   {}: {times}", kind.name)?;
         }
         Ok(())

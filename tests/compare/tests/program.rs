@@ -17,8 +17,9 @@ fn last_line(output: &Output) -> String {
 #[test]
 fn no_difference_gives_status_0() {
     let output = run(&["--cases", "400", "--seed", "9"]);
-    // 400 networks and 120 lists of lakes, every 3 by 3 tile for both, and 240 worked examples.
-    let cases = 400 + 120 + 2 * 177_147 + 240;
+    // 400 networks, 120 lists of lakes and 560 networks over the neighbours asked for; every 3 by 3 tile
+    // for all three, the last with both counts; and the worked examples of two.
+    let cases = 400 + 120 + 560 + 4 * 177_147 + 240 + 117;
     let wanted = format!("compare: {cases} cases, 0 differences");
     assert_eq!(last_line(&output), wanted);
     assert_eq!(output.status.code(), Some(0));

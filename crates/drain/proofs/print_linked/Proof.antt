@@ -9,6 +9,7 @@ use Rattle.network.proofs.Networks.{network-full}
 use Rattle.lists.proofs.Overwrite.{overwrite-take}
 use Rattle.rules.specs.Ground.{cellsOf}
 use Rattle.rules.specs.Network.{liftedNetworkOf}
+use Rattle.grid.specs.declared.Neighbours.the-variants.{Four}
 use Rattle.drain.proofs.print_linked.Statement.{statement}
 use Rattle.drain.proofs.print_linked.Tie as tie
 
@@ -25,7 +26,7 @@ print-lists-requires c κs =
     let g = groundIn (st .args .bytes .now) (st .args .width) (st .args .height) in
     let n = cellsOf g in
     let net = liftedNetworkOf g in
-    let F = network-full g (st .pre .0 .good) in
+    let F = network-full Four g (st .pre .0 .good) in
     let zeros : List ℕ = replicate 4096 0 in
     let e = at-walk .walk-record .ensures in
     let receivers = overwrite-take (net .receivers) zeros n (F .receivers-full) (e .receivers-are) in

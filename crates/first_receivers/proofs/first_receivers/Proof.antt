@@ -6,25 +6,25 @@ use Prim.Native.Nat.{ℕ, _+_, _-_, _≤_}
 use native.Mathlib.Omega.{arith}
 use lib.ListN.{length, length-set}
 use borrow.Author.Needs.{needs}
-use Rattle.first_receivers.proofs.Keys.{weighed-grid, weighed-placed}
+use Rattle.first_receivers.proofs.Weighing.{weighed-grid, weighed-placed}
 use Rattle.first_receivers.specs.Weights.{Weighed}
 use Rattle.lists.proofs.Filled.{filled-none, filled-put}
 use Rattle.lists.specs.Lists.{filled}
 use Rattle.rules.specs.FirstWays.{firstReceiver}
-use Rattle.rules.specs.Land.{rule4}
+use Rattle.rules.specs.Land.{ruleBy}
 use Rattle.rules.specs.Tile.{tileLand}
 use Rattle.first_receivers.proofs.first_receivers.Statement.{statement}
 use Rattle.first_receivers.proofs.first_receivers.Tie as tie
 
 abbrev Inv-loop : tie.InvT-loop
-Inv-loop w weights n out₀ down c₀ out c =
+Inv-loop neighbours w weights n out₀ down c₀ out c =
     (c ≤ n)
     × (length out ≡ length out₀)
-    × ((heights : List ℕ) → (marks : List ℕ) → Weighed w n heights marks weights
-    → out ≡ filled (firstReceiver (tileLand rule4 w heights marks)) c out₀)
+    × ((heights : List ℕ) → (marks : List ℕ) → Weighed neighbours w n heights marks weights
+    → out ≡ filled (firstReceiver (tileLand (ruleBy neighbours) w heights marks)) c out₀)
 
 abbrev μ-loop : tie.MeasureT-loop
-μ-loop w weights n out₀ down c₀ out c = n - c
+μ-loop neighbours w weights n out₀ down c₀ out c = n - c
 
 loop-holds : tie.Need-loop-holds Inv-loop μ-loop
 loop-holds c = (omega arith, refl, λ heights marks W. sym (filled-none _ _))
@@ -37,8 +37,8 @@ led-to-requires c κs =
     let t = c .before .loop-test .taken in
     let n = st .args .n in
     let w = st .args .w in
-    let d = firstReceiver (tileLand rule4 w heights marks) (lp .loop .c) in
-    (n, d, weighed-grid W, t, weighed-placed w n heights marks (st .args .weights .now) W (lp .loop .c) t)
+    let d = firstReceiver (tileLand (ruleBy (st .args .neighbours)) w heights marks) (lp .loop .c) in
+    (n, d, weighed-grid W, t, weighed-placed W (lp .loop .c) t)
 
 loop-again : tie.Need-loop-again Inv-loop μ-loop
 loop-again c =
@@ -50,9 +50,9 @@ loop-again c =
       search needs,
       length-set (lp .loop .out) x (c .led-to .result .0) ∙ i .1,
       λ heights marks W.
-          let first = firstReceiver (tileLand rule4 (a .w) heights marks) in
+          let first = firstReceiver (tileLand (ruleBy (a .neighbours)) (a .w) heights marks) in
           let t = c .before .before .loop-test .taken in
-          let P = weighed-placed (a .w) (a .n) heights marks (a .weights .now) W x t in
+          let P = weighed-placed W x t in
           filled-put first x (x + 1) (a .out .now) (search needs) (i .2 heights marks W) refl
           (c .led-to .ensures (a .n) (first x) (weighed-grid W) t P) refl,
     )
@@ -66,7 +66,7 @@ returns c =
     let out = st .args .out .now in
     let e : lp .loop .c ≡ n = omega arith in
     λ heights marks W. lp .loop .inv .2 heights marks W
-    ∙ ap (λ (k : ℕ). filled (firstReceiver (tileLand rule4 w heights marks)) k out) e
+    ∙ ap (λ (k : ℕ). filled (firstReceiver (tileLand (ruleBy (st .args .neighbours)) w heights marks)) k out) e
 
 pub first-receivers-spec : {M : Type 1} → statement M
 first-receivers-spec =

@@ -7,25 +7,25 @@ use native.Mathlib.Nat.{mod-eq-of-lt}
 use native.Mathlib.Omega.{arith}
 use lib.ListN.{length}
 use borrow.Author.Needs.{needs}
-use Rattle.first_receivers.proofs.Keys.{weight-mask}
+use Rattle.first_receivers.proofs.Weighing.{weight-mask}
 use Rattle.first_receivers.proofs.Rows.{row-of}
 use Rattle.first_receivers.specs.Weights.{firstIs, weight}
 use Rattle.lists.proofs.Filled.{filled-none, filled-same}
 use Rattle.lists.specs.Lists.{filled}
 use Rattle.grid.proofs.Rows.{row-after, row-fits}
 use Rattle.grid.specs.Masks.{maskOf}
-use Rattle.grid.specs.Window.{sides}
-use Rattle.rules.specs.Land.{rule4}
+use Rattle.grid.specs.Window.{around}
+use Rattle.rules.specs.Land.{ruleBy}
 use Rattle.rules.specs.Tile.{tileLand}
 use Rattle.first_receivers.proofs.weights.Statement.{statement}
 use Rattle.first_receivers.proofs.weights.Tie as tie
 
 abbrev Inv-loop : tie.InvT-loop
-Inv-loop w heights marks out₀ b₀ out b =
-    (b % w ≡ 0) × (b ≤ length heights) × (length out ≡ length out₀) × (out ≡ filled (weight w heights marks) b out₀)
+Inv-loop neighbours w heights marks out₀ b₀ out b =
+    (b % w ≡ 0) × (b ≤ length heights) × (length out ≡ length out₀) × (out ≡ filled (weight neighbours w heights marks) b out₀)
 
 abbrev μ-loop : tie.MeasureT-loop
-μ-loop w heights marks out₀ b₀ out b = length heights - b
+μ-loop neighbours w heights marks out₀ b₀ out b = length heights - b
 
 loop-holds : tie.Need-loop-holds Inv-loop μ-loop
 loop-holds c = let st = c .before .before .before in (mod-eq-of-lt (st .pre .0 .grid .rows .wide), omega arith, refl, sym (filled-none _ _))
@@ -61,7 +61,7 @@ loop-again c =
     let row = c .before .before .row-weights in (
       row-after (st .args .w) (lp .loop .b) (i .0),
       fits,
-      row .kept .1 .1 .1 .1 .1 .1 .0 ∙ i .2,
+      row .kept .1 .1 .1 .1 .1 .1 .1 .0 ∙ i .2,
       row .ensures (st .args .out .now) (st .pre .1) (i .3),
     )
 
@@ -69,14 +69,15 @@ returns : tie.Need-returns Inv-loop μ-loop
 returns c =
     let lp = c .before in
     let st = lp .before .before .before .before in
+    let N = st .args .neighbours in
     let w = st .args .w in
     let hs = st .args .heights .now in
     let ms = st .args .marks .now in
     let i = lp .loop .inv in
     let e : lp .loop .b ≡ length hs = omega arith in
-    i .3 ∙ ap (λ (k : ℕ). filled (weight w hs ms) k (st .args .out .now)) e
-    ∙ filled-same (weight w hs ms) (maskOf sides w (length hs) (firstIs (tileLand rule4 w hs ms))) (length hs) (st .args .out .now)
-    (λ k h. weight-mask w hs ms (st .pre .0) k h)
+    i .3 ∙ ap (λ (k : ℕ). filled (weight N w hs ms) k (st .args .out .now)) e
+    ∙ filled-same (weight N w hs ms) (maskOf around w (length hs) (firstIs (tileLand (ruleBy N) w hs ms))) (length hs) (st .args .out .now)
+    (λ k h. weight-mask N w hs ms (st .pre .0) k h)
 
 pub weights-spec : {M : Type 1} → statement M
 weights-spec =

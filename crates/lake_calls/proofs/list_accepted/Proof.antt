@@ -22,6 +22,7 @@ use Rattle.rules.specs.Land.{Land, rule4}
 use Rattle.rules.specs.Network.{liftedNetwork}
 use Rattle.rules.specs.Tile.{tileLand}
 use Rattle.stages.specs.Linking.{LawfulTile}
+use Rattle.grid.specs.declared.Neighbours.the-variants.{Four}
 use Rattle.lake_calls.proofs.list_accepted.Statement.{statement}
 use Rattle.lake_calls.proofs.list_accepted.Tie as tie
 
@@ -65,7 +66,7 @@ read-here c water G =
     let Found : Land → Type 0 = λ L. FoundIn L (levelsOn L) (c .tile-lakes .result) (c .tile-lakes .last .1 .1 .1 .0) in
     let long = c .tile-lakes .kept .1 .1 .1 .0 in
     found-read g G (c .tile-lakes .last .1 .1 .1 .0) (omega (arith, long, good-few g G))
-    (subst Found (tile-is-land g G)
+    (subst Found (tile-is-land Four g G)
     (subst (λ (l : List ℕ). Found (tileLand rule4 (g .width) l (g .marks))) (heights-here (lifting c) water G) (c .tile-lakes .ensures)))
 
 lift-heights-requires : tie.Need-lift-heights-requires
@@ -92,7 +93,7 @@ tile-lakes-requires c κs =
     let g = groundWith at-lift (w .0) in
     let t = heights-here at-lift (w .0) (w .1) in
     let m : length (take (count at-lift) (at-lift .lift-heights .last .1 .0)) ≡ cellsOf g = ap length t ∙ lifted-full g (w .1) in (
-      subst (λ (l : List ℕ). LawfulTile rule4 (g .width) l (g .marks)) (sym t) (good-tile g (w .1)),
+      subst (λ (l : List ℕ). LawfulTile rule4 (g .width) l (g .marks)) (sym t) (good-tile g (w .1) Four),
       omega (arith, m, good-few g (w .1)),
     )
 

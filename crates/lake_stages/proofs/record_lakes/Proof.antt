@@ -14,6 +14,7 @@ use Rattle.record_stages.proofs.Reading.{heights-are, in-range-at}
 use Rattle.rules.specs.Ground.{lifted}
 use Rattle.rules.specs.Land.{Land}
 use Rattle.rules.specs.Network.{liftedNetwork}
+use Rattle.grid.specs.declared.Neighbours.the-variants.{Four}
 use Rattle.lake_stages.proofs.record_lakes.Statement.{statement}
 use Rattle.lake_stages.proofs.record_lakes.Tie as tie
 
@@ -41,7 +42,7 @@ heights-read c =
 heights-long : (c : tie.After-lift-record) → length (take (count c) (heights c)) ≡ start c .args .height * start c .args .width
 heights-long c =
     let a = start c .args in
-    read-full (a .bytes .now) (a .width) (a .height) (start c .pre .0 .good) (count c) (counted c) (heights c) (heights-read c)
+    read-full Four (a .bytes .now) (a .width) (a .height) (start c .pre .0 .good) (count c) (counted c) (heights c) (heights-read c)
 
 lift-record-requires : tie.Need-lift-record-requires
 lift-record-requires c κs =
@@ -63,7 +64,7 @@ tile-lakes-requires c κs =
     let a = st .args in
     let long = heights-long at-lift in
     let room = st .pre .1 in (
-      read-tile (a .bytes .now) (a .width) (a .height) (st .pre .0 .good) (count at-lift) (counted at-lift) (heights at-lift) (heights-read at-lift),
+      read-tile Four (a .bytes .now) (a .width) (a .height) (st .pre .0 .good) (count at-lift) (counted at-lift) (heights at-lift) (heights-read at-lift),
       omega (arith, long, room),
     )
 
@@ -75,7 +76,7 @@ returns c =
     let st = start at-lift in
     let a = st .args in
     subst (λ (L : Land). FoundIn L (levelsOn L) (at-tile .tile-lakes .result) (at-tile .tile-lakes .last .1 .1 .1 .0))
-    (read-land (a .bytes .now) (a .width) (a .height) (st .pre .0 .good) (count at-lift) (counted at-lift) (heights at-lift) (heights-read at-lift))
+    (read-land Four (a .bytes .now) (a .width) (a .height) (st .pre .0 .good) (count at-lift) (counted at-lift) (heights at-lift) (heights-read at-lift))
     (at-tile .tile-lakes .ensures)
 
 pub record-lakes-spec : {M : Type 1} → statement M

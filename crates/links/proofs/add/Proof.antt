@@ -1,10 +1,10 @@
 -- `links::add` meets its contract: at turn c the cells before c - after have what their neighbours add, and the others are as they
--- were, so that no sum is more than 100 and 8.
+-- were, so that each sum fits.
 -- Assumes nothing.
 use Prim.Native.Nat.{max, _+_, _-_, _≤_}
 use native.Mathlib.Omega.{arith}
 use borrow.Author.Needs.{needs}
-use Rattle.links.proofs.FlatPasses.{pass-all, pass-next, pass-none, pass-still}
+use Rattle.links.proofs.FlatPasses.{pass-all, pass-fits, pass-next, pass-none}
 use Rattle.links.specs.Leads.{Added, addedTo}
 use Rattle.links.proofs.add.Statement.{statement}
 use Rattle.links.proofs.add.Tie as tie
@@ -26,10 +26,9 @@ add-links c =
     let lp = c .before .before .before .before in
     let st = lp .before .before .before in
     let a = st .args in
-    let still =
-    pass-still (a .after) (a .before) (a .weights .now) (a .weight) (a .more) (lp .loop .c) (a .links .now) (lp .loop .links) (search needs)
-    (lp .loop .inv .2) in
-    let low = st .pre .1 .1 (lp .loop .c - a .after) (search needs) in
+    let fits =
+    pass-fits (a .after) (a .before) (a .weights .now) (a .weight) (a .more) (lp .loop .c) (a .n) (a .links .now) (lp .loop .links)
+    (lp .loop .inv .0) (search needs) (st .pre .1 .1) (lp .loop .inv .2) (c .more-if .ensures) in
     omega arith
 
 loop-again : tie.Need-loop-again Inv-loop μ-loop
@@ -39,7 +38,7 @@ loop-again c =
     let i = lp .loop .inv in
     let next =
     pass-next (a .after) (a .before) (a .weights .now) (a .weight) (a .more) (lp .loop .c) (a .links .now) (lp .loop .links) (i .0)
-    (search needs) (i .2) (c .more-if .ensures .0) in
+    (search needs) (i .2) (c .more-if .ensures) in
     (search needs, search needs, next)
 
 returns : tie.Need-returns Inv-loop μ-loop

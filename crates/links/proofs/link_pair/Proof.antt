@@ -1,24 +1,22 @@
--- `links::link_pair` meets its contract: the two cells and their bits are those of the pair, and the lesser cell has a mask as the greater has.
+-- `links::link_pair` meets its contract: the two cells and their bits are those of the pair, and the lesser cell is on the tile as the
+-- greater is.
 -- Assumes nothing.
-use mathlib.Core.Path.{subst, sym, _∙_}
-use Prim.Native.Nat.{ℕ, _<_}
+use mathlib.Core.Path.{_∙_}
 use native.Mathlib.Omega.{arith}
 use borrow.Author.Needs.{needs}
-use Rattle.lists.specs.Lists.{at}
-use Rattle.pairs.proofs.Pairs.{side-rises}
+use Rattle.pairs.proofs.Pairs.{pair-climbs}
 use Rattle.links.proofs.link_pair.Statement.{statement}
 use Rattle.links.proofs.link_pair.Tie as tie
 
 link-two-requires : tie.Need-link-two-requires
 link-two-requires c κs =
+    let y = c .greater-bit .ensures in
+    let x = c .before .lesser-bit .ensures in
     let b = c .before .before .before .greater .ensures in
     let a = c .before .before .before .before .lesser .ensures in
     let st = c .before .before .before .before .before .before in
-    let up = side-rises (st .args .w) (st .args .p) in
-    let below : ℕ → Type 0 = λ k. at (st .args .links .now) k < 16 in (
-      (omega arith, omega arith, omega arith, omega arith),
-      (subst below (sym a) (st .pre .1 .0), subst below (sym b) (st .pre .1 .1)),
-    )
+    let up = pair-climbs (st .args .w) (st .args .p) (st .pre .0 .0) in
+    ((omega arith, omega arith), (rw (a, x) (st .pre .1 .0), rw (b, y) (st .pre .1 .1)))
 
 returns : tie.Need-returns
 returns c =
@@ -27,7 +25,7 @@ returns c =
     let forth = back .before in
     let greater = forth .before .before in
     link .link-two .ensures
-    ∙ rw (greater .before .lesser .ensures, greater .greater .ensures, forth .lesser-bit .ensures .0, back .greater-bit .ensures .0)
+    ∙ rw (greater .before .lesser .ensures, greater .greater .ensures, forth .lesser-bit .ensures, back .greater-bit .ensures)
 
 pub link-pair-spec : {M : Type 1} → statement M
 link-pair-spec =

@@ -8,9 +8,8 @@ use native.Mathlib.Omega.{arith}
 use lib.ListN.{length, take}
 use lib.Seq.{take-length}
 use borrow.Author.Needs.{needs}
-use Rattle.grid.proofs.Rules.{sides-rule}
 use Rattle.grid.specs.Masks.{maskOf}
-use Rattle.grid.specs.Window.{sides}
+use Rattle.grid.specs.Window.{around}
 use Rattle.lists.specs.Lists.{filled}
 use Rattle.links.proofs.AddedLinks.{next-pair, none-yet, one-more}
 use Rattle.links.specs.PairLinks.{Addable, withPairs}
@@ -21,13 +20,13 @@ abbrev Inv-loop : tie.InvT-loop
 Inv-loop w pairs links₀ i₀ links i =
     (i ≤ length pairs)
     × (length links ≡ length links₀)
-    × ((n : ℕ) → (E : ℕ → ℕ → Bool) → Addable sides w n E pairs links₀ → links ≡ filled (maskOf sides w n (withPairs sides w (take i pairs) E)) n links₀)
+    × ((n : ℕ) → (E : ℕ → ℕ → Bool) → Addable w n E pairs links₀ → links ≡ filled (maskOf around w n (withPairs w (take i pairs) E)) n links₀)
 
 abbrev μ-loop : tie.MeasureT-loop
 μ-loop w pairs links₀ i₀ links i = length pairs - i
 
 loop-holds : tie.Need-loop-holds Inv-loop μ-loop
-loop-holds c = (omega arith, refl, λ n E A. none-yet sides-rule A)
+loop-holds c = (omega arith, refl, λ n E A. none-yet A)
 
 link-pair-requires : tie.Need-link-pair-requires Inv-loop μ-loop
 link-pair-requires c κs =
@@ -36,9 +35,9 @@ link-pair-requires c κs =
     let a = lp .before .before .before .args in
     let (n, E, A) = lp .before .before .before .pre in
     let next =
-    next-pair sides-rule A (lp .loop .i) (test .loop-test .taken) (lp .loop .links)
+    next-pair A (lp .loop .i) (test .loop-test .taken) (lp .loop .links)
     (lp .loop .inv .2 n E A) in
-    ((next .narrow, next .few, next .on), (next .lesser-small, next .greater-small))
+    ((A .grid .rows .wide, A .grid .narrow, next .few, next .on), (next .lesser-fits, next .greater-fits))
 
 loop-again : tie.Need-loop-again Inv-loop μ-loop
 loop-again c =
@@ -49,7 +48,7 @@ loop-again c =
       search needs,
       k .kept .1 .1 .0 ∙ lp .loop .inv .1,
       λ n E A. k .ensures
-          ∙ one-more sides-rule A (lp .loop .i) (test .loop-test .taken) (lp .loop .links)
+          ∙ one-more A (lp .loop .i) (test .loop-test .taken) (lp .loop .links)
           (lp .loop .inv .2 n E A),
     )
 
@@ -59,7 +58,7 @@ returns c =
     let a = lp .before .before .before .args in
     let e : lp .loop .i ≡ length (a .pairs .now) = omega arith in
     λ n E A. lp .loop .inv .2 n E A
-    ∙ ap (λ (l : List ℕ). filled (maskOf sides (a .w) n (withPairs sides (a .w) l E)) n (a .links .now))
+    ∙ ap (λ (l : List ℕ). filled (maskOf around (a .w) n (withPairs (a .w) l E)) n (a .links .now))
     (ap (λ (k : ℕ). take k (a .pairs .now)) e ∙ take-length (a .pairs .now))
 
 pub link-pairs-spec : {M : Type 1} → statement M

@@ -16,8 +16,8 @@ use Rattle.network.proofs.Networks.{levels-droppable, network-full, net
 use Rattle.rules.proofs.SixLists.{firstOf-onto}
 use Rattle.rules.specs.Carving.{receivers}
 use Rattle.rules.specs.Ground.{cellsOf, dropped, Ground, lifted}
-use Rattle.rules.specs.Land.{Land, rule4}
-use Rattle.rules.specs.Network.{liftedNetwork, liftedNetworkOf, Network}
+use Rattle.rules.specs.Land.{Land, ruleBy}
+use Rattle.rules.specs.Network.{liftedNetwork, liftedNetworkBy, Network}
 use Rattle.rules.specs.SixLists.{Full, onto, sixLists}
 use Rattle.rules.specs.Tile.{tileLand}
 use Rattle.stages.specs.Linking.{LawfulTile}
@@ -64,22 +64,23 @@ before c =
 
 abbrev after : tie.After-work-out → Network ℕ
 after c =
-    let lists = c .work-out .last .1 .1 .1 .1 in
+    let lists = c .work-out .last .1 .1 .1 .1 .1 in
     sixLists (lists .0) (lists .1 .0) (lists .1 .1 .0) (lists .1 .1 .1 .0) (lists .1 .1 .1 .1 .0) (lists .1 .1 .1 .1 .1 .0)
 
-worked : (c : tie.After-work-out) → after c ≡ onto (liftedNetworkOf (ground (lifting c))) (before c)
+worked : (c : tie.After-work-out) → after c ≡ onto (liftedNetworkBy (start (lifting c) .args .neighbours) (ground (lifting c))) (before c)
 worked c =
     let g = ground (lifting c) in
     let net : Land → Network ℕ = λ L. onto (liftedNetwork L (g .water) (receivers L)) (before c) in
     c .work-out .ensures
-    ∙ ap (λ (l : List ℕ). net (tileLand rule4 (g .width) l (g .marks))) (heights-here (lifting c))
-    ∙ ap net (tile-is-land g (good (lifting c)))
+    ∙ ap (λ (l : List ℕ). net (tileLand (ruleBy (start (lifting c) .args .neighbours)) (g .width) l (g .marks))) (heights-here (lifting c))
+    ∙ ap net (tile-is-land (start (lifting c) .args .neighbours) g (good (lifting c)))
 
-levels-here : (c : tie.After-work-out) → take (count (lifting c)) (after c .levels) ≡ liftedNetworkOf (ground (lifting c)) .levels
+levels-here : (c : tie.After-work-out)
+    → take (count (lifting c)) (after c .levels) ≡ liftedNetworkBy (start (lifting c) .args .neighbours) (ground (lifting c)) .levels
 levels-here c =
     let at-lift = lifting c in
-    let net = liftedNetworkOf (ground at-lift) in
-    let full = subst (λ (k : ℕ). Full k net) (sym (counted at-lift)) (network-full (ground at-lift) (good at-lift)) in
+    let net = liftedNetworkBy (start at-lift .args .neighbours) (ground at-lift) in
+    let full = subst (λ (k : ℕ). Full k net) (sym (counted at-lift)) (network-full (start at-lift .args .neighbours) (ground at-lift) (good at-lift)) in
     ap (λ (s : Network ℕ). s .levels) (firstOf-onto (count at-lift) net (before c) full (worked c))
 
 lift-heights-requires : tie.Need-lift-heights-requires
@@ -107,7 +108,8 @@ work-out-requires c κs =
     let m : length (take (count at-lift) (at-lift .lift-heights .last .1 .0)) ≡ cellsOf g = ap length t ∙ lifted-full g G in
     let H = start at-lift .pre .1 in (
       (
-        subst (λ (l : List ℕ). LawfulTile rule4 (g .width) l (g .marks)) (sym t) (good-tile g G),
+        subst (λ (l : List ℕ). LawfulTile (ruleBy (start at-lift .args .neighbours)) (g .width) l (g .marks)) (sym t)
+            (good-tile g G (start at-lift .args .neighbours)),
         G .water-full ∙ sym m,
       ),
       record {
@@ -124,15 +126,16 @@ drop-levels-requires : tie.Need-drop-levels-requires
 drop-levels-requires c κs =
     let at-work = c .before .before .before .before .before .before .before .before .before .before .before .before .before in
     let at-lift = lifting at-work in
-    let f : count at-lift ≤ length (after at-work .levels) = omega (arith, few at-lift, at-work .work-out .kept .1 .1 .1 .1 .1 .1 .1 .0) in
-    (f, omega (arith, counted at-lift, start at-lift .pre .1), levels-droppable (ground at-lift) (good at-lift) (levels-here at-work))
+    let f : count at-lift ≤ length (after at-work .levels) = omega (arith, few at-lift, at-work .work-out .kept .1 .1 .1 .1 .1 .1 .1 .1 .0) in
+    let droppable = levels-droppable (start at-lift .args .neighbours) (ground at-lift) (good at-lift) (levels-here at-work) in
+    (f, omega (arith, counted at-lift, start at-lift .pre .1), droppable)
 
 returns : tie.Need-returns
 returns c =
     let at-work = c .before .before .before .before .before .before .before .before .before .before .before .before .before .before .before in
     let at-lift = lifting at-work in
     let levels = start at-lift .args .levels .now in
-    network-written (ground at-lift) (good at-lift) (before at-work) levels (worked at-work)
+    network-written (start at-lift .args .neighbours) (ground at-lift) (good at-lift) (before at-work) levels (worked at-work)
     (c .before .drop-levels .ensures ∙ ap (λ (l : List ℕ). overwrite (map dropped l) levels) (levels-here at-work))
 
 pub fill-spec : {M : Type 1} → statement M

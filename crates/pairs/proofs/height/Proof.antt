@@ -2,19 +2,19 @@
 -- Assumes nothing.
 use native.Mathlib.Omega.{arith}
 use borrow.Author.Needs.{needs}
-use Rattle.pairs.proofs.Pairs.{side-rises}
+use Rattle.pairs.proofs.Pairs.{pair-climbs}
 use Rattle.pairs.proofs.height.Statement.{statement}
 use Rattle.pairs.proofs.height.Tie as tie
 
 shared-slice-read-most-u32 : tie.Need-shared-slice-read-most-u32
 shared-slice-read-most-u32 c =
     let st = c .before .before .before .before .before in
-    omega (arith, side-rises (st .args .w) (st .args .p))
+    omega (arith, pair-climbs (st .args .w) (st .args .p) (st .pre .0))
 
 shared-slice-read-most-u32-2 : tie.Need-shared-slice-read-most-u32-2
 shared-slice-read-most-u32-2 c =
     let st = c .before .before .before .before .before .before .before in
-    omega (arith, side-rises (st .args .w) (st .args .p))
+    omega (arith, pair-climbs (st .args .w) (st .args .p) (st .pre .0))
 
 returns : tie.Need-returns
 returns c =

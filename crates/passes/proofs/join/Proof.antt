@@ -2,8 +2,7 @@
 -- Assumes nothing.
 use native.Mathlib.Omega.{arith}
 use borrow.Author.Needs.{needs}
-use Rattle.grid.specs.Window.{sides}
-use Rattle.pairs.proofs.Pairs.{side-rises}
+use Rattle.pairs.proofs.Pairs.{pair-climbs}
 use Rattle.pairs.specs.Pairs.{greaterOf, lesserOf}
 use Rattle.passes.proofs.join.Statement.{statement}
 use Rattle.passes.proofs.join.Tie as tie
@@ -11,12 +10,12 @@ use Rattle.passes.proofs.join.Tie as tie
 shared-slice-read-t12 : tie.Need-shared-slice-read-t12
 shared-slice-read-t12 c =
     let st = c .before .before .before .before .before .before .before in
-    omega (arith, side-rises (st .args .w) (st .args .p))
+    omega (arith, pair-climbs (st .args .w) (st .args .p) (st .pre .0 .0))
 
 shared-slice-read-t17 : tie.Need-shared-slice-read-t17
 shared-slice-read-t17 c =
     let st = c .before .before .before .before .before .before .before .before .before in
-    omega (arith, side-rises (st .args .w) (st .args .p))
+    omega (arith, pair-climbs (st .args .w) (st .args .p) (st .pre .0 .0))
 
 unite-requires : tie.Need-unite-requires
 unite-requires c κs =
@@ -24,9 +23,9 @@ unite-requires c κs =
     let near = far .before in
     let st = near .before .before .before in
     let in-groups = st .pre .1 .1 in (
-      rw (near .lesser .ensures) (in-groups (lesserOf sides (st .args .p)) (omega (arith, st .pre .1 .0, side-rises (st .args .w) (st .args .p)))),
-      rw (far .greater .ensures) (in-groups (greaterOf sides (st .args .w) (st .args .p)) (st .pre .1 .0)),
-      st .pre .0 .2,
+      rw (near .lesser .ensures) (in-groups (lesserOf (st .args .p)) (omega (arith, st .pre .1 .0, pair-climbs (st .args .w) (st .args .p) (st .pre .0 .0)))),
+      rw (far .greater .ensures) (in-groups (greaterOf (st .args .w) (st .args .p)) (st .pre .1 .0)),
+      st .pre .0 .3,
     )
 
 returns : tie.Need-returns

@@ -5,7 +5,6 @@ use Prim.Native.Nat.{_-_, _<_, _≤_}
 use native.Mathlib.Omega.{arith}
 use lib.ListN.{length}
 use borrow.Author.Needs.{needs}
-use Rattle.grid.specs.Window.{sides}
 use Rattle.lists.proofs.Range.{range-length}
 use Rattle.pairs.specs.Pairs.{crossingOf}
 use Rattle.passes.proofs.PickTurns.{greater-on, labels-in, Picking, picking-all, picking-next, picking-none}
@@ -13,7 +12,7 @@ use Rattle.passes.proofs.pick_along.Statement.{statement}
 use Rattle.passes.proofs.pick_along.Tie as tie
 
 abbrev Inv-loop : tie.InvT-loop
-Inv-loop w labels group₀ list₀ m₀ i₀ group list m i = (i ≤ length list₀) × Picking (crossingOf sides w) labels list₀ m i group list
+Inv-loop w labels group₀ list₀ m₀ i₀ group list m i = (i ≤ length list₀) × Picking (crossingOf w) labels list₀ m i group list
 
 abbrev μ-loop : tie.MeasureT-loop
 μ-loop w labels group₀ list₀ m₀ i₀ group list m i = length list₀ - i
@@ -26,10 +25,10 @@ join-requires c κs =
     let test = c .before .before in
     let lp = test .before in
     let st = lp .before .before .before .before in
-    let given = st .pre .0 .1 in
+    let given = st .pre .0 .2 in
     let Q = lp .loop .inv .1 in
     let l : lp .loop .i < length (st .args .list .now) = omega (arith, Q .long, test .loop-test .taken) in
-    ((st .pre .0 .0, given .1 .few, Q .groups .down), (greater-on Q given l, labels-in Q given l))
+    ((st .pre .0 .0, st .pre .0 .1, given .1 .few, Q .groups .down), (greater-on Q given l, labels-in Q given l))
 
 slice-write-list : tie.Need-slice-write-list Inv-loop μ-loop
 slice-write-list c =
@@ -41,7 +40,7 @@ loop-again c =
     let j = c .before .before .join in
     let test = c .before .before .before .before .before in
     let lp = test .before in
-    let given = lp .before .before .before .before .pre .0 .1 in
+    let given = lp .before .before .before .before .pre .0 .2 in
     let Q = lp .loop .inv .1 in (
       omega (arith, Q .long, test .loop-test .taken),
       picking-next Q given (omega (arith, Q .long, test .loop-test .taken)) _ _ (j .ensures .0) (j .ensures .1) (j .kept .1 .1 .1 .0),

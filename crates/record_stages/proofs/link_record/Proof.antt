@@ -37,7 +37,7 @@ heights-read c =
 heights-long : (c : tie.After-lift-record) → length (take (count c) (heights c)) ≡ start c .args .height * start c .args .width
 heights-long c =
     let a = start c .args in
-    read-full (a .bytes .now) (a .width) (a .height) (start c .pre .0 .good) (count c) (counted c) (heights c) (heights-read c)
+    read-full (a .neighbours) (a .bytes .now) (a .width) (a .height) (start c .pre .0 .good) (count c) (counted c) (heights c) (heights-read c)
 
 lift-record-requires : tie.Need-lift-record-requires
 lift-record-requires c κs =
@@ -62,7 +62,7 @@ link-cells-requires c κs =
     let z = counted at-lift in
     let long = heights-long at-lift in
     let room = st .pre .1 in (
-      read-tile s (a .width) (a .height) G n z (heights at-lift) (heights-read at-lift),
+      read-tile (a .neighbours) s (a .width) (a .height) G n z (heights at-lift) (heights-read at-lift),
       (omega (arith, long, room .1), room .2),
     )
 
@@ -79,8 +79,8 @@ returns c =
     let t = heights-read at-lift in
     let found = at-links .link-cells .ensures in
     record {
-      linked = linked-record s (a .width) (a .height) G n z (heights at-lift) t (found .links-are);
-      basins-are = read-basins s (a .width) (a .height) G n z (heights at-lift) t (a .basins .now) (found .basins-are);
+      linked = linked-record (a .neighbours) s (a .width) (a .height) G n z (heights at-lift) t (found .links-are);
+      basins-are = read-basins (a .neighbours) s (a .width) (a .height) G n z (heights at-lift) t (a .basins .now) (found .basins-are);
     }
 
 pub link-record-spec : {M : Type 1} → statement M

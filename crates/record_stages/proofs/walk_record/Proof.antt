@@ -13,7 +13,7 @@ use Rattle.lists.specs.Lists.{stretch}
 use Rattle.record_stages.proofs.LinkedRecord.{heights-here, linked-here, read-full, read-network, read-tile}
 use Rattle.rules.specs.Carving.{receivers}
 use Rattle.rules.specs.Ground.{lifted}
-use Rattle.rules.specs.Land.{Land, rule4}
+use Rattle.rules.specs.Land.{Land, ruleBy}
 use Rattle.rules.specs.Network.{Network}
 use Rattle.rules.specs.SixLists.{onto, sixLists}
 use Rattle.rules.specs.Tile.{tileLand}
@@ -35,28 +35,30 @@ abbrev marks : tie.After-cells → List ℕ
 marks c = let n = c .cells .result in stretch (4 * n) (5 * n - 4 * n) (start c .args .bytes .now)
 
 abbrev tile : tie.After-cells → Land
-tile c = tileLand rule4 (start c .args .width) (heights c) (marks c)
+tile c = tileLand (ruleBy (start c .args .neighbours)) (start c .args .width) (heights c) (marks c)
 
-links-are : (c : tie.After-cells) → Linked rule4 (start c .args .width) (heights c) (marks c) (start c .args .links .now)
+links-are : (c : tie.After-cells) → Linked (ruleBy (start c .args .neighbours)) (start c .args .width) (heights c) (marks c) (start c .args .links .now)
 links-are c =
     let a = start c .args in
-    linked-here (a .bytes .now) (a .width) (a .height) (start c .pre .0 .good) (c .cells .result) (c .cells .ensures) (start c .pre .1 .0)
+    linked-here (a .neighbours) (a .bytes .now) (a .width) (a .height) (start c .pre .0 .good) (c .cells .result) (c .cells .ensures) (start c .pre .1 .0)
 
 heights-are : (c : tie.After-cells)
     → let a = start c .args in heights c ≡ map lifted (groundIn (a .bytes .now) (a .width) (a .height) .heights)
 heights-are c =
     let a = start c .args in
-    heights-here (a .bytes .now) (a .width) (a .height) (start c .pre .0 .good) (c .cells .result) (c .cells .ensures) (start c .pre .1 .0)
+    heights-here (a .neighbours) (a .bytes .now) (a .width) (a .height) (start c .pre .0 .good) (c .cells .result) (c .cells .ensures) (start c .pre .1 .0)
 
 heights-full : (c : tie.After-cells) → length (heights c) ≡ start c .args .height * start c .args .width
 heights-full c =
     let a = start c .args in
-    read-full (a .bytes .now) (a .width) (a .height) (start c .pre .0 .good) (c .cells .result) (c .cells .ensures) (a .lifted .now) (heights-are c)
+    read-full (a .neighbours) (a .bytes .now) (a .width) (a .height) (start c .pre .0 .good) (c .cells .result) (c .cells .ensures)
+    (a .lifted .now) (heights-are c)
 
-tile-is : (c : tie.After-cells) → LawfulTile rule4 (start c .args .width) (heights c) (marks c)
+tile-is : (c : tie.After-cells) → LawfulTile (ruleBy (start c .args .neighbours)) (start c .args .width) (heights c) (marks c)
 tile-is c =
     let a = start c .args in
-    read-tile (a .bytes .now) (a .width) (a .height) (start c .pre .0 .good) (c .cells .result) (c .cells .ensures) (a .lifted .now) (heights-are c)
+    read-tile (a .neighbours) (a .bytes .now) (a .width) (a .height) (start c .pre .0 .good) (c .cells .result) (c .cells .ensures)
+    (a .lifted .now) (heights-are c)
 
 room : (c : tie.After-cells)
     → let a = start c .args in
@@ -78,7 +80,7 @@ before c =
 
 abbrev after : tie.After-walk-links → Lent
 after c =
-    let lists = c .walk-links .last .1 .1 .1 .1 in
+    let lists = c .walk-links .last .1 .1 .1 .1 .1 in
     lent (lists .0) (lists .1 .0) (lists .1 .1 .0) (lists .1 .1 .1 .0) (lists .1 .1 .1 .1 .0)
 
 walked : (c : tie.After-walk-links)
@@ -109,7 +111,7 @@ drain-section-requires c κs =
     let at-count = counting at-walk in
     let st = start at-count in
     let z = at-count .cells .ensures in
-    let k : length (after at-walk .stack) ≡ length (st .args .drainage .now) = at-walk .walk-links .kept .1 .1 .1 .1 .0 in (
+    let k : length (after at-walk .stack) ≡ length (st .args .drainage .now) = at-walk .walk-links .kept .1 .1 .1 .1 .1 .0 in (
       (tile at-count, receivers (tile at-count), drainable at-walk),
       (omega (arith, z, st .pre .0 .long), omega (arith, z, st .pre .1 .1 .fits-stack, k)),
     )
@@ -131,7 +133,7 @@ returns c =
     worked (tile-is at-count) (links-are at-count) (room at-count) (walked at-walk) [] (numbersAt 2 s (5 * n) n) n
     (z ∙ sym (heights-full at-count)) refl (at-drain .drain-section .ensures L (receivers L) (drainable at-walk))
     ∙ ap (λ (net : Network ℕ). onto net lists)
-    (read-network s (a .width) (a .height) (st .pre .0 .good) n z (a .lifted .now) (heights-are at-count)) in
+    (read-network (a .neighbours) s (a .width) (a .height) (st .pre .0 .good) n z (a .lifted .now) (heights-are at-count)) in
     let receivers = ap (λ (t : Network ℕ). t .receivers) e in
     let order = ap (λ (t : Network ℕ). t .order) e in
     let levels = ap (λ (t : Network ℕ). t .levels) e in

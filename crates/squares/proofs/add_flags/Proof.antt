@@ -1,6 +1,6 @@
 -- `squares::add_flags` meets its contract.
 -- After c turns the first c flags have the side's bit where the pair is kept. A turn adds what `kept` says of the cell's two squares;
--- flags of at most 1 have room for it.
+-- flags have room for it.
 -- Assumes nothing.
 use mathlib.Core.Logic.{inr}
 use mathlib.Core.Path.{refl, _∙_, _≡_}
@@ -17,11 +17,11 @@ use Rattle.squares.proofs.add_flags.Statement.{statement}
 use Rattle.squares.proofs.add_flags.Tie as tie
 
 abbrev Inv-loop : tie.InvT-loop
-Inv-loop side n labels sq flags₀ on back c₀ flags c =
+Inv-loop side n labels sq flags₀ on first second c₀ flags c =
     (length flags ≡ length flags₀) × (c ≤ n - side .on) × Puts (λ i. at flags₀ i + flag side n labels (at sq) i) 0 c flags₀ flags
 
 abbrev μ-loop : tie.MeasureT-loop
-μ-loop side n labels sq flags₀ on back c₀ flags c = n - c
+μ-loop side n labels sq flags₀ on first second c₀ flags c = n - c
 
 loop-holds : tie.Need-loop-holds Inv-loop μ-loop
 loop-holds c = (refl, omega arith, puts-none _ 0 0 _ refl)
@@ -35,7 +35,7 @@ add-flags c =
     let i = lp .loop .c in
     let h : i + a .side .on < a .n = test .loop-test .taken in
     let e = lp .loop .inv .2 .outside i (inr (omega arith)) in
-    let q = c .kept .ensures ∙ flag-in (a .side) (a .n) (a .labels .now) (at (a .sq .now)) i h in
+    let q = c .kept .ensures .0 ∙ flag-in (a .side) (a .n) (a .labels .now) (at (a .sq .now)) i h in
     omega (arith, e, st .pre .0, st .pre .1 .1 i (omega arith), q, flag-most (a .side) (a .n) (a .labels .now) (at (a .sq .now)) i)
 
 loop-again : tie.Need-loop-again Inv-loop μ-loop
@@ -47,7 +47,7 @@ loop-again c =
     let i = lp .loop .c in
     let h : i + a .side .on < a .n = test .loop-test .taken in
     let e = lp .loop .inv .2 .outside i (inr (omega arith)) in
-    let q = c .kept .ensures ∙ flag-in (a .side) (a .n) (a .labels .now) (at (a .sq .now)) i h in (
+    let q = c .kept .ensures .0 ∙ flag-in (a .side) (a .n) (a .labels .now) (at (a .sq .now)) i h in (
       simp length-set (lp .loop .inv .0),
       omega arith,
       puts-next (λ j. at (a .flags .now) j + flag (a .side) (a .n) (a .labels .now) (at (a .sq .now)) j) _ (lp .loop .inv .2) (omega arith)
@@ -69,7 +69,7 @@ add-flags-spec =
     loop-holds
     (λ c. search needs) (λ c. search needs) (λ c. search needs) (λ c. search needs) (λ c. search needs)
     (λ c. search needs) (λ c. search needs) (λ c. search needs) (λ c. search needs) (λ c. search needs)
-    (λ c. search needs) (λ c. search needs) (λ c κs. search needs)
+    (λ c. search needs) (λ c. search needs) (λ c. search needs) (λ c κs. search needs)
     add-flags
     (λ c. search needs) (λ c. search needs) (λ c. search needs)
     loop-again

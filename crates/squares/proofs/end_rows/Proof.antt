@@ -1,5 +1,5 @@
 -- `squares::end_rows` meets its contract.
--- Before e, which ends a row, every end of a row is 0. A turn leads to the end of the next row: between the two none ends.
+-- Before e, which ends a row, every end of a row is 13. A turn leads to the end of the next row: between the two none ends.
 -- Assumes nothing.
 use mathlib.Core.Path.{refl, _≡_}
 use Prim.Native.Nat.{_-_}

@@ -2,7 +2,7 @@
 -- The squares fill the part after the margin, and the margin is as it was.
 -- Assumes nothing.
 use borrow.Author.Needs.{needs}
-use Rattle.squares.proofs.Listing.{part-fours, part-room, squares-margined}
+use Rattle.squares.proofs.Listing.{part-eights, part-room, squares-margined}
 use Rattle.squares.proofs.margined_squares.Statement.{statement}
 use Rattle.squares.proofs.margined_squares.Tie as tie
 
@@ -14,8 +14,8 @@ squares-requires c κs =
     let grid = st .pre .1 .0 in (
       st .pre .0,
       (
-        (grid .0, part-room (a .w) (a .heights .now) (a .labels .now) l (grid .1) (st .pre .1 .1)),
-        part-fours (a .w) (a .heights .now) (a .labels .now) l (grid .1) (st .pre .1 .1),
+        (grid .0, part-room (a .neighbours) (a .w) (a .heights .now) (a .labels .now) l (grid .1) (st .pre .1 .1)),
+        part-eights (a .neighbours) (a .w) (a .heights .now) (a .labels .now) l (grid .1) (st .pre .1 .1),
       ),
     )
 
@@ -24,7 +24,7 @@ returns c =
     let begun = c .before .before in
     let st = begun .before .before .before .before .before in
     let a = st .args in
-    squares-margined (a .w) (a .heights .now) (a .labels .now) (a .sq .now) (st .pre .1 .0 .1) (st .pre .1 .1) _ (begun .squares .ensures)
+    squares-margined (a .neighbours) (a .w) (a .heights .now) (a .labels .now) (a .sq .now) (st .pre .1 .0 .1) (st .pre .1 .1) _ (begun .squares .ensures)
 
 pub margined-squares-spec : {M : Type 1} → statement M
 margined-squares-spec =

@@ -1,5 +1,5 @@
 -- `squares::squares` meets its contract.
--- The squares of all rows but the last, the 4s that were there, and 0 where a row ends.
+-- The squares of all rows but the last, the 8s that were there, and 13 where a row ends.
 -- Assumes nothing.
 use borrow.Author.Needs.{needs}
 use Rattle.squares.proofs.Listing.{squares-filled}
@@ -12,7 +12,7 @@ returns c =
     let begun = ends .before .before .before .before in
     let st = begun .before .before .before .before .before in
     let a = st .args in
-    squares-filled (a .w) (a .heights .now) (a .labels .now) (st .pre .1 .0 .0) (st .pre .1 .0 .1) (st .pre .1 .1)
+    squares-filled (a .neighbours) (a .w) (a .heights .now) (a .labels .now) (st .pre .1 .0 .0) (st .pre .1 .0 .1) (st .pre .1 .1)
     (begun .begin-squares .ensures) (ends .end-rows .ensures)
 
 pub squares-spec : {M : Type 1} → statement M

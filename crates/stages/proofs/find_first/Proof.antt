@@ -5,10 +5,9 @@ use native.Mathlib.Omega.{arith}
 use lib.ListN.{length}
 use borrow.Author.Needs.{needs}
 use Rattle.first_receivers.specs.Weights.{Weighed}
-use Rattle.grid.specs.Window.{sides}
 use Rattle.links.specs.Leads.{Leading}
 use Rattle.rules.specs.FirstWays.{firstReceiver}
-use Rattle.rules.specs.Land.{Land, rule4}
+use Rattle.rules.specs.Land.{Land, ruleBy}
 use Rattle.rules.specs.Tile.{tileLand}
 use Rattle.stages.proofs.Stages.{leading, weighed}
 use Rattle.stages.proofs.find_first.Statement.{statement}
@@ -18,22 +17,22 @@ abbrev start : tie.After-weights → tie.Start
 start c = c .before .before .before .before .before .before
 
 abbrev land : tie.After-weights → Land
-land c = let a = start c .args in tileLand rule4 (a .w) (a .heights .now) (a .marks .now)
+land c = let a = start c .args in tileLand (ruleBy (a .neighbours)) (a .w) (a .heights .now) (a .marks .now)
 
 -- what `weights` left is what first receivers ask for
 weights-are : (c : tie.After-weights)
     → let a = start c .args in
-    Weighed (a .w) (length (a .heights .now)) (a .heights .now) (a .marks .now) (c .weights .last .1 .1 .1 .0)
-weights-are c = let a = start c .args in weighed (a .w) (a .heights .now) (a .marks .now) (start c .pre .0) _ (c .weights .ensures)
+    Weighed (a .neighbours) (a .w) (length (a .heights .now)) (a .heights .now) (a .marks .now) (c .weights .last .1 .1 .1 .1 .0)
+weights-are c = let a = start c .args in weighed (a .neighbours) (a .w) (a .heights .now) (a .marks .now) (start c .pre .0) _ (c .weights .ensures)
 
 -- and what links ask for
 weights-lead : (c : tie.After-weights)
-    → Leading sides (start c .args .w) (length (start c .args .heights .now)) (firstReceiver (land c)) (c .weights .last .1 .1 .1 .0)
+    → Leading (start c .args .neighbours) (start c .args .w) (length (start c .args .heights .now)) (firstReceiver (land c)) (c .weights .last .1 .1 .1 .1 .0)
 weights-lead c =
     let a = start c .args in
     let few = start c .pre .0 .grid .few in
-    let l : length (c .weights .last .1 .1 .1 .0) ≡ 4096 = c .weights .kept .1 .1 .1 .0 in
-    leading (a .w) (a .heights .now) (a .marks .now) (start c .pre .0) _ (omega arith) (c .weights .ensures)
+    let l : length (c .weights .last .1 .1 .1 .1 .0) ≡ 4096 = c .weights .kept .1 .1 .1 .1 .0 in
+    leading (a .neighbours) (a .w) (a .heights .now) (a .marks .now) (start c .pre .0) _ (omega arith) (c .weights .ensures)
 
 first-receivers-requires : tie.Need-first-receivers-requires
 first-receivers-requires c κs =

@@ -1,4 +1,4 @@
--- `stages::link_cells` meets its contract: of 4,224 entries the middle 4,096 are lent for the links.
+-- `stages::link_cells` meets its contract: of 4,226 entries the middle 4,096 are lent for the links.
 -- Assumes nothing.
 use borrow.Author.Needs.{needs}
 use Rattle.stages.proofs.Stages.{margin}
@@ -12,8 +12,8 @@ returns c =
     let a = st .args in
     let found = at-links .find-links in
     record {
-      basins-are = found .ensures .0;
-      links-are = margin (a .links .now) (st .pre .1 .1) (found .kept .1 .1 .1 .1 .0) (found .ensures .1);
+      basins-are = found .ensures .basins-are;
+      links-are = margin (a .links .now) (st .pre .1 .1) (found .kept .1 .1 .1 .1 .1 .0) (found .ensures .linkage);
     }
 
 pub link-cells-spec : {M : Type 1} → statement M

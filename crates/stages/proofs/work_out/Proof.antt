@@ -5,7 +5,7 @@ use native.Mathlib.Omega.{arith}
 use lib.ListN.{length}
 use borrow.Author.Needs.{needs}
 use Rattle.rules.specs.Carving.{receivers}
-use Rattle.rules.specs.Land.{Land, rule4}
+use Rattle.rules.specs.Land.{Land, ruleBy}
 use Rattle.rules.specs.Tile.{tileLand}
 use Rattle.stages.proofs.Stages.{ordered, worked}
 use Rattle.walk.specs.Walk.{Lent, lent, LentHolds, Walked}
@@ -20,7 +20,7 @@ abbrev start : tie.After-walk-links → tie.Start
 start c = linking c .before .before .before .before .before .before .before .before .before .before .before .before
 
 abbrev land : tie.After-walk-links → Land
-land c = let a = start c .args in tileLand rule4 (a .w) (a .heights .now) (a .marks .now)
+land c = let a = start c .args in tileLand (ruleBy (a .neighbours)) (a .w) (a .heights .now) (a .marks .now)
 
 -- the five lists of the walk, as they were lent and as it left them
 abbrev before : tie.After-walk-links → Lent
@@ -28,7 +28,7 @@ before c = let a = start c .args in lent (a .drainage .now) (a .order .now) (a .
 
 abbrev after : tie.After-walk-links → Lent
 after c =
-    let lists = c .walk-links .last .1 .1 .1 .1 in
+    let lists = c .walk-links .last .1 .1 .1 .1 .1 in
     lent (lists .0) (lists .1 .0) (lists .1 .1 .0) (lists .1 .1 .1 .0) (lists .1 .1 .1 .1 .0)
 
 -- they have room
@@ -59,7 +59,7 @@ walk-links-requires c κs =
     let at-links = c .before .before .before .before .before .before .before .before .before in
     let st = at-links .before .before .before .before .before .before .before .before .before .before .before .before in
     let a = st .args in (
-      (receivers (tileLand rule4 (a .w) (a .heights .now) (a .marks .now)), at-links .link-cells .ensures .links-are),
+      (receivers (tileLand (ruleBy (a .neighbours)) (a .w) (a .heights .now) (a .marks .now)), at-links .link-cells .ensures .links-are),
       room st,
     )
 
@@ -67,7 +67,7 @@ drain-requires : tie.Need-drain-requires
 drain-requires c κs =
     let at-walk = c .before .before .before .before .before .before .before .before .before .before .before .before .before in
     let st = start at-walk in
-    let k : length (after at-walk .stack) ≡ length (st .args .drainage .now) = at-walk .walk-links .kept .1 .1 .1 .1 .0 in
+    let k : length (after at-walk .stack) ≡ length (st .args .drainage .now) = at-walk .walk-links .kept .1 .1 .1 .1 .1 .0 in
     ((land at-walk, receivers (land at-walk), drainable at-walk), omega (arith, st .pre .0 .1, st .pre .1 .drainage-holds))
 
 returns : tie.Need-returns

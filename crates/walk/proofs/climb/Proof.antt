@@ -1,6 +1,7 @@
 -- `walk::climb` meets its contract.
 -- Between turns the invariant of Midst holds for all marks and receivers that the contract speaks of. Of those that it requires, the top
--- cell, its receiver and its room on the stack are known (Tops), and so every index is in its list. Turns keeps the invariant.
+-- cell, its receiver and its room on the stack are known (Tops), and so every index is in its list; with four neighbours its mask has no
+-- corners (Asked). Turns keeps the invariant.
 -- Assumes nothing.
 use mathlib.Core.List.{List}
 use mathlib.Core.Path.{refl}
@@ -8,27 +9,28 @@ use Prim.Native.Nat.{ℕ, _+_, _-_, _<_, _≤_}
 use native.Mathlib.Omega.{arith}
 use lib.ListN.{length}
 use borrow.Author.Needs.{needs}
-use Rattle.grid.specs.Window.{sides}
+use Rattle.grid.specs.Window.{around}
 use Rattle.lists.specs.Lists.{at}
-use Rattle.rules.specs.Land.{rule4}
+use Rattle.rules.specs.Land.{ruleBy}
 use Rattle.rules.specs.Tile.{tileLand}
+use Rattle.walk.proofs.Asked.{mask-asked}
 use Rattle.walk.proofs.Midst.{begin, finish, Midst, still-room}
-use Rattle.walk.proofs.Tops.{bits-fit, cell-on, receiver-there, room, top}
+use Rattle.walk.proofs.Tops.{bits-fit, cell-on, parts, receiver-there, room, top}
 use Rattle.walk.proofs.Turns.{turn}
-use Rattle.walk.specs.Climb.{cellIn, maskIn, ones, Ready, receiverIn}
+use Rattle.walk.specs.Climb.{cellIn, MaskAsked, maskIn, ones, Ready, receiverIn}
 use Rattle.walk.specs.Walk.{lent, Lent, Margin, LentHolds}
 use Rattle.walk.proofs.climb.Statement.{statement}
 use Rattle.walk.proofs.climb.Tie as tie
 
 abbrev Inv-loop : tie.InvT-loop
-Inv-loop w heights links stack₀ order₀ receivers₀ levels₀ wets₀ top₀ written₀ stack order receivers levels wets top written =
-    (marks : List ℕ) → (r : List ℕ) → Margin rule4 w heights marks links r
-    → Ready sides w (tileLand rule4 w heights marks) r (lent stack₀ order₀ receivers₀ levels₀ wets₀) (top₀ .0)
-    → Midst sides w (tileLand rule4 w heights marks) r (lent stack₀ order₀ receivers₀ levels₀ wets₀) (lent stack order receivers levels wets)
+Inv-loop neighbours w heights links stack₀ order₀ receivers₀ levels₀ wets₀ top₀ written₀ stack order receivers levels wets top written =
+    (marks : List ℕ) → (r : List ℕ) → Margin (ruleBy neighbours) w heights marks links r
+    → Ready w (tileLand (ruleBy neighbours) w heights marks) r (lent stack₀ order₀ receivers₀ levels₀ wets₀) (top₀ .0)
+    → Midst w (tileLand (ruleBy neighbours) w heights marks) r (lent stack₀ order₀ receivers₀ levels₀ wets₀) (lent stack order receivers levels wets)
     (written .0) (top .0)
 
 abbrev μ-loop : tie.MeasureT-loop
-μ-loop w heights links stack₀ order₀ receivers₀ levels₀ wets₀ top₀ written₀ stack order receivers levels wets top written =
+μ-loop neighbours w heights links stack₀ order₀ receivers₀ levels₀ wets₀ top₀ written₀ stack order receivers levels wets top written =
     length heights - written .0
 
 abbrev start : tie.At-loop Inv-loop μ-loop → tie.Start Inv-loop μ-loop
@@ -44,8 +46,9 @@ held lp = lent (lp .loop .stack) (lp .loop .order) (lp .loop .receivers) (lp .lo
 
 -- the invariant at the marks and the receivers that are required
 midst : (lp : tie.At-loop Inv-loop μ-loop)
-    → Midst sides (start lp .args .w) (tileLand rule4 (start lp .args .w) (start lp .args .heights .now) (start lp .pre .0 .0)) (start lp .pre .0 .1)
-    (given lp) (held lp) (lp .loop .written .0) (lp .loop .top .0)
+    → let a = start lp .args in
+    Midst (a .w) (tileLand (ruleBy (a .neighbours)) (a .w) (a .heights .now) (start lp .pre .0 .0)) (start lp .pre .0 .1) (given lp) (held lp)
+    (lp .loop .written .0) (lp .loop .top .0)
 midst lp = let p = start lp .pre .0 in lp .loop .inv (p .0) (p .1) (p .2) (p .3)
 
 abbrev cells : tie.At-loop Inv-loop μ-loop → ℕ
@@ -60,13 +63,14 @@ record Turn (lp : tie.At-loop Inv-loop μ-loop) : Type 0 where
   pub few : cells lp ≤ 4096
   pub wide : 0 < start lp .args .w
   pub narrow : start lp .args .w ≤ 64
-  pub margin : cells lp + 128 ≤ length (start lp .args .links .now)
+  pub margin : cells lp + 130 ≤ length (start lp .args .links .now)
   pub fits : LentHolds (cells lp) (held lp)
   pub here : lp .loop .top .0 < cells lp
   pub more : lp .loop .written .0 < cells lp
-  pub cell-on : cellIn sides (entry lp) < cells lp
-  pub receiver-there : receiverIn sides (entry lp) < cells lp
-  pub bits : ones sides (maskIn sides (entry lp)) ≤ lp .loop .top .0
+  pub cell-on : cellIn (entry lp) < cells lp
+  pub receiver-there : receiverIn (entry lp) < cells lp
+  pub bits : ones around (maskIn (entry lp)) ≤ lp .loop .top .0
+  pub asked : MaskAsked (start lp .args .neighbours) (maskIn (entry lp))
 
 turn-here : (lp : tie.At-loop Inv-loop μ-loop) → lp .loop .top .0 < cells lp → Turn lp
 turn-here lp t =
@@ -85,16 +89,17 @@ turn-here lp t =
       cell-on = cell-on M I T;
       receiver-there = receiver-there M I T;
       bits = bits-fit M I T;
+      asked = rw (parts M I T .mask-is) (mask-asked (start lp .args .neighbours) M (T .x) (T .on));
     }
 
 loop-holds : tie.Need-loop-holds Inv-loop μ-loop
 loop-holds c = λ marks r M R. begin (M .inside .drains) R
 
-mul-t15 : tie.Need-mul-t15 Inv-loop μ-loop
-mul-t15 c = omega (arith, turn-here (c .before .before .before) (c .before .if1 .taken))
+mul-t16 : tie.Need-mul-t16 Inv-loop μ-loop
+mul-t16 c = omega (arith, turn-here (c .before .before .before) (c .before .if1 .taken))
 
-slice-read-t18 : tie.Need-slice-read-t18 Inv-loop μ-loop
-slice-read-t18 c = omega (arith, turn-here (c .before .before .before .before) (c .before .before .if1 .taken))
+slice-read-t19 : tie.Need-slice-read-t19 Inv-loop μ-loop
+slice-read-t19 c = omega (arith, turn-here (c .before .before .before .before) (c .before .before .if1 .taken))
 
 mul-order : tie.Need-mul-order Inv-loop μ-loop
 mul-order c =
@@ -114,8 +119,8 @@ visit-requires c κs =
     let T = turn-here lp (tested .if1 .taken) in
     let cell : reading .cell .result .0 < cells lp = rw (reading .cell .ensures .0) (T .cell-on) in
     let few = T .few in let margin = T .margin in let fits = T .fits .fits-stack in let here = T .here in (
-      (T .wide, T .narrow, omega arith, omega arith, c .mask .ensures .1),
-      (rw (c .mask .ensures .0) (T .bits), omega arith, omega arith),
+      (T .wide, T .narrow, omega arith, omega arith, rw (c .mask .ensures) (T .asked)),
+      (rw (c .mask .ensures) (T .bits), omega arith, omega arith),
     )
 
 settle-requires : tie.Need-settle-requires Inv-loop μ-loop
@@ -129,8 +134,8 @@ settle-requires c κs =
     let r = T .fits .fits-receivers in let l = T .fits .fits-levels in let v = T .fits .fits-wets in
     (cell, omega arith, omega arith, omega arith, omega arith)
 
-add-t31 : tie.Need-add-t31 Inv-loop μ-loop
-add-t31 c =
+add-t32 : tie.Need-add-t32 Inv-loop μ-loop
+add-t32 c =
     let visiting = c .before .before .before .before .before .before .before .before .before .before .before .before .before .before in
     let tested = visiting .before .before .before .before .before .before .before in
     omega (arith, turn-here (tested .before .before) (tested .if1 .taken))
@@ -153,7 +158,7 @@ loop-again c =
     let fits = turn-here lp (tested .if1 .taken) .fits .fits-stack in
     λ marks r M R.
     let T = top M (lp .loop .inv marks r M R) (tested .if1 .taken) fits in
-    turn M T (start lp .pre .1) (x .result .0) (q .result .0) (m .result) (x .ensures .0) (q .ensures) (m .ensures .0) (v .kept .1 .1 .0)
+    turn M T (start lp .pre .1) (x .result .0) (q .result .0) (m .result) (x .ensures .0) (q .ensures) (m .ensures) (v .kept .1 .1 .1 .0)
     (v .ensures .0) (v .ensures .1) refl (z .ensures .0) (z .ensures .1) (z .ensures .2)
 
 same-length : tie.Need-same-length Inv-loop μ-loop
@@ -184,8 +189,8 @@ climb-spec =
     μ-loop
     loop-holds
     (λ c. search needs) (λ c. search needs)
-    mul-t15
-    slice-read-t18
+    mul-t16
+    slice-read-t19
     (λ c κs. search needs) (λ c. search needs)
     mul-order
     slice-write-order
@@ -193,7 +198,7 @@ climb-spec =
     visit-requires
     (λ c κs. search needs)
     settle-requires
-    add-t31
+    add-t32
     loop-less
     loop-again
     same-length

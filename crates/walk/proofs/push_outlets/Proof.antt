@@ -8,7 +8,6 @@ use Prim.Native.Nat.{ℕ, _*_, _+_, _-_, _≤_}
 use native.Mathlib.Omega.{arith}
 use lib.ListN.{drop, length}
 use borrow.Author.Needs.{needs}
-use Rattle.grid.specs.Window.{sides}
 use Rattle.lists.specs.Lists.{keep, upto}
 use Rattle.rules.specs.Ground.{isOutlet}
 use Rattle.walk.proofs.Begins.{Begun, begun-next}
@@ -19,7 +18,7 @@ use Rattle.walk.proofs.push_outlets.Tie as tie
 
 abbrev Inv-loop : tie.InvT-loop
 Inv-loop marks links stack₀ c₀ top₀ stack c top =
-    (c ≤ length marks) × (length stack ≡ length stack₀) × Begun (outletEntry sides links) marks stack₀ stack (length marks) c (top .0)
+    (c ≤ length marks) × (length stack ≡ length stack₀) × Begun (outletEntry links) marks stack₀ stack (length marks) c (top .0)
 
 abbrev μ-loop : tie.MeasureT-loop
 μ-loop marks links stack₀ c₀ top₀ stack c top = c
@@ -59,8 +58,8 @@ loop-again c =
     let low = i .0 in (
       omega arith,
       p .kept .0 ∙ i .1,
-      begun-next (outletEntry sides (a .links .now)) ms (a .stack .now) (lp .loop .stack) (p .last .0) (length ms) (lp .loop .c) (lp .loop .top .0)
-          (p .result .0) (bit .result) (65552 * (lp .loop .c - 1) + links .result) t low (i .2)
+      begun-next (outletEntry (a .links .now)) ms (a .stack .now) (lp .loop .stack) (p .last .0) (length ms) (lp .loop .c) (lp .loop .top .0)
+          (p .result .0) (bit .result) (1048832 * (lp .loop .c - 1) + links .result) t low (i .2)
           (bit .ensures .0 ∙ ap (λ (t : Bool). cond t 1 0) (outlet .ensures))
           (omega (arith, links .ensures)) (p .ensures .0) (p .ensures .1),
     )
@@ -74,7 +73,7 @@ returns c =
     let z : lp .loop .c ≡ 0 = omega (arith, c .loop-test .left) in
     let e : outletsFrom ms (length ms) (lp .loop .c) ≡ keep (isOutlet ms) (upto (length ms)) = outlets-all ms (length ms) (lp .loop .c) z in (
       ap (λ (l : List ℕ). lp .loop .top .0 + length l) (sym e) ∙ I .count,
-      I .from-top ∙ ap (λ (l : List ℕ). map (outletEntry sides (a .links .now)) l ++ drop (length ms) (a .stack .now)) e,
+      I .from-top ∙ ap (λ (l : List ℕ). map (outletEntry (a .links .now)) l ++ drop (length ms) (a .stack .now)) e,
     )
 
 pub push-outlets-spec : {M : Type 1} → statement M

@@ -1,95 +1,148 @@
--- `walk::visit` meets its contract: the entries of the four sides, the last one first, each pushed where its bit is 1.
+-- `walk::visit` meets its contract: the entries of the places around (Besides), the last one first, each pushed where its bit is 1, those of
+-- the rows above and below in one step (InRow).
 -- Assumes nothing.
-use mathlib.Core.List.{[], List, _∷_}
-use mathlib.Core.Path.{ap, refl, sym, _∙_, _≡_}
-use Prim.Native.Nat.{ℕ, _%_, _+_, _/_, _<_, _≤_}
-use native.Mathlib.Nat.{div-div-eq-div-mul}
+use mathlib.Core.List.{[], _∷_}
+use mathlib.Core.Path.{ap, refl, sym, _∙_}
+use Prim.Native.Nat.{ℕ, _%_, _+_, _/_}
+use native.Mathlib.Nat.{mod-mod}
 use native.Mathlib.Omega.{arith}
-use lib.ListN.{drop}
+use lib.ListN.{drop, length}
 use borrow.Author.Needs.{needs}
-use Rattle.grid.specs.Window.{sides}
-use Rattle.lists.specs.Lists.{at}
+use Rattle.walk.proofs.Besides as entries
+use Rattle.walk.proofs.InRow.{halved, keptOf-row}
 use Rattle.walk.proofs.Pushing.{keptOf-push}
-use Rattle.walk.specs.Climb.{besideEntry, between, entry, linksAt, ones, pushes, shifted}
+use Rattle.walk.proofs.Room.{moved-all, room-above, room-below, room-left, room-right}
+use Rattle.walk.specs.Climb.{besideEntry, pushes}
 use Rattle.walk.proofs.visit.Statement.{statement}
 use Rattle.walk.proofs.visit.Tie as tie
 
--- a side's entry, as the code has its parts
-side : (w : ℕ) (links : List ℕ) (c p : ℕ) {own way i e : ℕ} → e ≡ shifted own way (at links i) → own ≡ entry sides c c 0
-    → way ≡ between sides w p → i ≡ linksAt w c p → e ≡ besideEntry sides w links c p
-side w links c p h a b d = h ∙ rw (a, b, d)
+-- where the function starts, from the entries of the row above on
+abbrev start₆ : tie.After-beside6 → tie.Start
+start₆ c =
+    c .before .before .before .before .before .before .before .before .before .before .before .before .before .before .before .before .before
 
--- the bits by halving are those by division
-halved : (m : ℕ) → (m / 2 / 2 ≡ m / 4) × (m / 2 / 2 / 2 ≡ m / 8)
-halved m = (div-div-eq-div-mul m 2 2, ap (λ (x : ℕ). x / 2) (div-div-eq-div-mul m 2 2) ∙ div-div-eq-div-mul m 4 2)
+abbrev start₇ : tie.After-beside7 → tie.Start
+start₇ c = start₆ (c .before .before)
 
-ones-sides : (m : ℕ) → ones sides m ≡ m % 2 + (m / 2 % 2 + (m / 4 % 2 + m / 8 % 2))
-unfolding ones
-ones-sides m = rw (halved m .1, halved m .0) (omega arith)
+abbrev start₈ : tie.After-beside8 → tie.Start
+start₈ c = start₇ (c .before .before .before)
 
--- after three pushes there is room for one more
-room : (m t top : ℕ) {size n : ℕ} → n ≡ size → ones sides m ≤ top → top < size → t + (m / 2 % 2 + (m / 4 % 2 + m / 8 % 2)) ≡ top + 1
-    → (0 < t) × (t ≤ n) × (m % 2 ≤ 1)
-room m t top e h k d = let bits = ones-sides m in (omega arith, omega arith, omega arith)
+abbrev start : tie.After-push-row → tie.Start
+start c = start₈ (c .before .before .before)
 
-abbrev start : tie.After-push → tie.Start
-start c = c .before .before .before .before .before .before .before .before .before .before .before .before .before .before .before
+sub-beside-8 : tie.Need-sub-beside-8
+sub-beside-8 c = omega (arith, start₆ c .pre .0)
+
+shared-slice-read-beside-7 : tie.Need-shared-slice-read-beside-7
+shared-slice-read-beside-7 c = omega (arith, start₆ (c .before) .pre .0)
+
+sub-beside-9 : tie.Need-sub-beside-9
+sub-beside-9 c = omega (arith, start₇ (c .before) .pre .0)
+
+add-beside-7 : tie.Need-add-beside-7
+add-beside-7 c = let room = start₇ (c .before) .pre .0 in record { fits = omega (arith, room) }
+
+shared-slice-read-beside-8 : tie.Need-shared-slice-read-beside-8
+shared-slice-read-beside-8 c = omega (arith, start₇ (c .before .before) .pre .0)
+
+add-t36 : tie.Need-add-t36
+add-t36 c = let room = start₈ (c .before .before) .pre .1 in record { fits = omega (arith, room) }
+
+push-row-requires : tie.Need-push-row-requires
+push-row-requires c κs =
+    let st = start₈ (c .before .before) in
+    let r = room-below (st .args .mask) (st .args .top .0) (length (st .args .stack .now)) (st .pre .1 .0) (st .pre .1 .1) in
+    (r .0, r .1, st .pre .0 .4 .1)
+
+push-requires : tie.Need-push-requires
+push-requires c κs =
+    let below = c .before .before .before in
+    let st = start below in
+    room-right (st .args .mask) (st .args .top .0) (length (st .args .stack .now)) (st .pre .1 .0) (st .pre .1 .1)
+    (below .push-row .ensures .0) (below .push-row .kept .1 .0)
 
 push-requires-2 : tie.Need-push-requires-2
 push-requires-2 c κs =
-    let first = c .before .before .before in let st = start first in
-    let size = first .push .kept .0 in let room = st .pre in let bits = ones-sides (st .args .mask) in
-    (omega arith, omega arith, omega arith)
+    let right = c .before .before .before in
+    let below = right .before .before .before .before in
+    let st = start below in
+    room-left (st .args .mask) (st .args .top .0) (length (st .args .stack .now)) (st .pre .1 .0) (st .pre .1 .1)
+    (below .push-row .ensures .0) (below .push-row .kept .1 .0) (right .push .ensures .0) (right .push .kept .0)
 
-push-requires-3 : tie.Need-push-requires-3
-push-requires-3 c κs =
-    let second = c .before .before .before in let first = second .before .before .before .before in let st = start first in
-    let size = second .push2 .kept .0 ∙ first .push .kept .0 in let room = st .pre in let bits = ones-sides (st .args .mask) in
-    (omega arith, omega arith, omega arith)
+push-row-requires-2 : tie.Need-push-row-requires-2
+push-row-requires-2 c κs =
+    let left = c .before .before .before in
+    let right = left .before .before .before .before in
+    let below = right .before .before .before .before in
+    let st = start below in
+    let r = room-above (st .args .mask) (st .args .top .0) (length (st .args .stack .now)) (st .pre .1 .0) (st .pre .1 .1)
+    (below .push-row .ensures .0) (below .push-row .kept .1 .0) (right .push .ensures .0) (right .push .kept .0)
+    (left .push2 .ensures .0) (left .push2 .kept .0) in
+    (r .0, r .1, st .pre .0 .4 .0)
 
-push-requires-4 : tie.Need-push-requires-4
-push-requires-4 c κs =
-    let third = c .before .before .before in let second = third .before .before .before .before in
-    let first = second .before .before .before .before in let st = start first in let a = st .args in
-    let t₁ = first .push .ensures .0 in let t₂ = second .push2 .ensures .0 in let t₃ = third .push3 .ensures .0 in
-    room (a .mask) (third .push3 .result .0) (a .top .0) (third .push3 .kept .0 ∙ second .push2 .kept .0 ∙ first .push .kept .0) (st .pre .1 .0)
-    (st .pre .1 .1) (omega arith)
+same-length : tie.Need-same-length
+same-length c =
+    let above = c .before .before in let left = above .before .before .before .before in
+    let right = left .before .before .before .before in let below = right .before .before .before .before in
+    above .push-row2 .kept .1 .0 ∙ left .push2 .kept .0 ∙ right .push .kept .0 ∙ below .push-row .kept .1 .0
 
 returns : tie.Need-returns
 unfolding pushes
 returns c =
-    let fourth = c .before .before in let third = fourth .before .before .before .before in
-    let second = third .before .before .before .before in let first = second .before .before .before .before in
-    let above = first .before .before .before in let leftward = above .before .before in let rightward = leftward .before .before in
-    let p1 = first .push in let p2 = second .push2 in let p3 = third .push3 in let p4 = fourth .push4 in
-    let a = start first .args in
+    let above = c .before .before in let left = above .before .before .before .before in
+    let right = left .before .before .before .before in let below = right .before .before .before .before in
+    let b8 = below .before .before .before in let b7 = b8 .before .before .before in let b6 = b7 .before .before in
+    let b5 = b6 .before .before in let b4 = b5 .before .before in let b3 = b4 .before .before in let b2 = b3 .before .before in
+    let b1 = b2 .before .before in
+    let st = start below in let a = st .args in
     let ls = a .links .now in let c = a .c .0 in let m = a .mask in let w = a .w in
     let old = drop (a .top .0 + 1) (a .stack .now) in
-    let f = besideEntry sides w ls c in
-    let narrow = start first .pre in
-    let e7 = keptOf-push f 7 [] (m / 2 / 2 / 2) old (p1 .ensures .1) (ap (λ (x : ℕ). x % 2) (sym (halved m .1)))
-    (side w ls c 7 (rightward .before .before .beside .ensures) (omega arith) (omega arith) (omega arith)) refl in
-    let e5 = keptOf-push f 5 (7 ∷ []) (m / 2 / 2) old (p2 .ensures .1) (ap (λ (x : ℕ). x % 2) (sym (halved m .0)))
-    (side w ls c 5 (rightward .beside2 .ensures) (omega arith) (omega arith) (omega arith)) e7 in
-    let e3 = keptOf-push f 3 (5 ∷ 7 ∷ []) (m / 2) old (p3 .ensures .1) refl
-    (side w ls c 3 (leftward .beside3 .ensures) (omega arith) (omega arith) (omega arith)) e5 in
-    let e1 = keptOf-push f 1 (3 ∷ 5 ∷ 7 ∷ []) m old (p4 .ensures .1) refl
-    (side w ls c 1 (above .beside4 .ensures) (omega arith) (omega arith) (omega arith)) e3 in
-    let bits = ones-sides m in
-    let t1 = p1 .ensures .0 in let t2 = p2 .ensures .0 in let t3 = p3 .ensures .0 in let t4 = p4 .ensures .0 in
-    (omega arith, e1)
+    let f = besideEntry w ls c in
+    let H = halved m in
+    let p1 = below .push-row in let p2 = right .push in let p3 = left .push2 in let p4 = above .push-row2 in
+    let wide = st .pre .0 .0 in let narrow = st .pre .0 .1 in
+    let sub6 = b1 .before .before .wrapping-sub-u32 in let sub2 = b8 .before .before .wrapping-sub-u322 in
+    let e6 = entries.below-left w ls c wide narrow (search needs) (sub6 .ensures) (b1 .beside .ensures) in
+    let e7 = entries.below w ls c wide narrow (b2 .beside2 .ensures) in
+    let e8 = entries.below-right w ls c wide narrow (b3 .beside3 .ensures) in
+    let e5 = entries.right w ls c wide narrow (b4 .beside4 .ensures) in
+    let e3 = entries.left w ls c wide narrow (b5 .beside5 .ensures) in
+    let e0 = entries.above-left w ls c wide narrow (b6 .beside6 .ensures) in
+    let e1 = entries.above w ls c wide narrow (b7 .beside7 .ensures) in
+    let e2 = entries.above-right w ls c wide narrow (search needs) (sub2 .ensures) (b8 .beside8 .ensures) in
+    let k6 = keptOf-row f 6 7 8 [] (m / 32) (m / 2 / 2 / 2 / 2 / 2) old (p1 .ensures .1) (ap (λ (x : ℕ). x % 8) (sym (H .five-times)))
+    e6 e7 e8 refl in
+    let k5 = keptOf-push f 5 (6 ∷ 7 ∷ 8 ∷ []) (m / 2 / 2 / 2 / 2) old (p2 .ensures .1) (ap (λ (x : ℕ). x % 2) (sym (H .four-times))) e5 k6 in
+    let k3 = keptOf-push f 3 (5 ∷ 6 ∷ 7 ∷ 8 ∷ []) (m / 2 / 2 / 2) old (p3 .ensures .1) (ap (λ (x : ℕ). x % 2) (sym (H .thrice))) e3 k5 in
+    let k0 = keptOf-row f 0 1 2 (3 ∷ 5 ∷ 6 ∷ 7 ∷ 8 ∷ []) (m % 8) m old (p4 .ensures .1) (mod-mod m 8) e0 e1 e2 k3 in
+    let moved = moved-all m (a .top .0) (length (a .stack .now)) (st .pre .1 .0) (st .pre .1 .1) (p1 .ensures .0) (p1 .kept .1 .0)
+    (p2 .ensures .0) (p2 .kept .0) (p3 .ensures .0) (p3 .kept .0) (p4 .result .0) (p4 .ensures .0) in
+    (moved, k0)
 
 pub visit-spec : {M : Type 1} → statement M
 visit-spec =
     tie.close
     (tie.spec
-    (λ c. search needs) (λ c. search needs) (λ c. search needs) (λ c. search needs) (λ c. search needs)
-    (λ c. search needs) (λ c. search needs) (λ c. search needs) (λ c. search needs) (λ c κs. search needs)
-    (λ c. search needs) (λ c. search needs) (λ c κs. search needs) (λ c. search needs) (λ c. search needs)
+    (λ c. search needs) (λ c. search needs) (λ c. search needs) (λ c. search needs) (λ c. search needs) (λ c. search needs)
     (λ c κs. search needs) (λ c. search needs) (λ c. search needs) (λ c. search needs) (λ c κs. search needs)
-    (λ c. search needs) (λ c κs. search needs)
-    push-requires-2
-    push-requires-3
-    push-requires-4
+    (λ c. search needs) (λ c. search needs) (λ c. search needs) (λ c κs. search needs)
+    (λ c. search needs) (λ c. search needs) (λ c. search needs) (λ c. search needs) (λ c κs. search needs)
+    (λ c. search needs) (λ c. search needs) (λ c κs. search needs)
+    (λ c. search needs) (λ c. search needs) (λ c κs. search needs)
+    (λ c. search needs) (λ c. search needs) (λ c. search needs) (λ c. search needs) (λ c κs. search needs)
     (λ c. search needs)
+    sub-beside-8
+    shared-slice-read-beside-7
+    (λ c κs. search needs)
+    (λ c κs. search needs)
+    sub-beside-9
+    add-beside-7
+    shared-slice-read-beside-8
+    (λ c κs. search needs)
+    add-t36
+    push-row-requires
+    push-requires
+    push-requires-2
+    push-row-requires-2
+    same-length
     returns)

@@ -6,8 +6,7 @@ use second::network_record;
 use second::record::{distances, distances_named, length, lists, size_named, TRAILER};
 use second::refusal::Refusal;
 
-use super::Mutant;
-use crate::library::Library;
+use super::{right, Mutant, NetworkCall};
 
 /// A library with the table changed.
 macro_rules! table {
@@ -16,17 +15,19 @@ macro_rules! table {
     };
 }
 
-pub const MUTANTS: &[Mutant<Library>] = mutants![
-    "refuses every tile" => |_, _| Refusal::Length.answer(),
+pub const MUTANTS: &[Mutant<NetworkCall>] = mutants![
+    "refuses every tile" => |_, _, _| Refusal::Length.answer(),
     // each number, on both sides of its limits
     "1: width 65 accepted" => table!(|tests| tests[SIZE] = |record, _| sides_up_to(record, 65, 64)),
     "1: height 64 refused" => table!(|tests| tests[SIZE] = |record, _| sides_up_to(record, 64, 63)),
     "2: a longer record accepted" => table!(|tests| tests[LENGTH] = |record, _| {
         must(record.len() >= length(size_named(record)), Refusal::Length)
     }),
-    "2: a record under 16 bytes refused with 1" => |ground, network| match ground.len() {
-        0..=15 => Refusal::Size.answer(),
-        _ => second::call(ground, network),
+    "2: a record under 16 bytes refused with 1" => |neighbours, ground, network| {
+        match ground.len() {
+            0..=15 => Refusal::Size.answer(),
+            _ => right(neighbours, ground, network),
+        }
     },
     "7: only the first distance judged" => table!(|tests| tests[DISTANCES] = |record, _| {
         distances_agree(record, |named, right| named[0] == right[0])

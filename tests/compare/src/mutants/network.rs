@@ -5,20 +5,22 @@ use std::collections::HashSet;
 
 use second::basins::{self, Basins};
 use second::carving::{self, Outflow};
-use second::first_receivers::first_receivers;
+use second::first_receivers::{first_receivers, steepness};
 use second::flow;
 use second::ground::{Basin, Cell, Ground};
+use second::neighbours::Neighbours;
 use second::passes::{self, pair, Crossing};
 
-use super::Mutant;
-use crate::library::Library;
+use super::{Mutant, NetworkCall};
 
-pub const MUTANTS: &[Mutant<Library>] = mutants![
-    "rule 1: the greatest number of equally low ones" =>
-        with!(first_receivers: greatest_of_equally_low),
+pub const MUTANTS: &[Mutant<NetworkCall>] = mutants![
+    "rule 1: the greatest number of equally steep ones" =>
+        with!(first_receivers: greatest_of_equally_steep),
     "rule 1: an equally high neighbour receives too" => with!(first_receivers: equal_receives_too),
     "rule 1: an outlet with a lower neighbour has a receiver" =>
-        with!(first_receivers: |ground| first_receivers(&first_outlet_only(ground))),
+        with!(first_receivers: |neighbours, ground| {
+            first_receivers(neighbours, &first_outlet_only(ground))
+        }),
     "rule 1: heights compared as unsigned numbers" => with!(first_receivers: unsigned_heights),
     "rule 1: the last cell of the row above is a neighbour" => with!(first_receivers: wrapped_rows),
     "rule 2: basins numbered as their cells are met" => with!(basins: numbered_as_met),
@@ -88,39 +90,42 @@ pub const MUTANTS: &[Mutant<Library>] = mutants![
     }),
 ];
 
-fn greatest_of_equally_low(ground: &Ground) -> Vec<Option<Cell>> {
-    let as_low = |cell, first| {
-        let equal = |other: &Cell| ground.height(*other) == ground.height(first);
-        ground.size.neighbours(cell).filter(equal).last()
+fn greatest_of_equally_steep(neighbours: Neighbours, ground: &Ground) -> Vec<Option<Cell>> {
+    let as_steep = |cell, first| {
+        let equal = |other: &Cell| {
+            ground.height(*other) < ground.height(cell)
+                && steepness(ground, cell, *other) == steepness(ground, cell, first)
+        };
+        neighbours.of(cell, ground.size).filter(equal).last()
     };
-    let right = ground.cells().zip(first_receivers(ground));
-    right.map(|(cell, first)| as_low(cell, first?)).collect()
+    let right = ground.cells().zip(first_receivers(neighbours, ground));
+    right.map(|(cell, first)| as_steep(cell, first?)).collect()
 }
 
 /// An equally high neighbour only counts with a lesser number, or the way would never end.
-fn equal_receives_too(ground: &Ground) -> Vec<Option<Cell>> {
-    let mut found = first_receivers(ground);
+fn equal_receives_too(neighbours: Neighbours, ground: &Ground) -> Vec<Option<Cell>> {
+    let mut found = first_receivers(neighbours, ground);
     for (cell, first) in ground.cells().zip(&mut found) {
         let equal = |other: &Cell| *other < cell && ground.height(*other) == ground.height(cell);
         if first.is_none() && !ground.is_outlet(cell) {
-            *first = ground.size.neighbours(cell).find(equal);
+            *first = neighbours.of(cell, ground.size).find(equal);
         }
     }
     found
 }
 
-/// With its first bit the other way, a number compares as if it had no sign.
-fn unsigned_heights(ground: &Ground) -> Vec<Option<Cell>> {
+/// Without its sign, any negative number is greater than all others.
+fn unsigned_heights(neighbours: Neighbours, ground: &Ground) -> Vec<Option<Cell>> {
     let mut unsigned = ground.clone();
-    for height in &mut unsigned.heights {
-        *height ^= i32::MIN;
+    for height in unsigned.heights.iter_mut().filter(|height| **height < 0) {
+        *height += 32_000_000;
     }
-    first_receivers(&unsigned)
+    first_receivers(neighbours, &unsigned)
 }
 
 /// In the first column the number before is taken for a neighbour, though it is in another row.
-fn wrapped_rows(ground: &Ground) -> Vec<Option<Cell>> {
-    let mut found = first_receivers(ground);
+fn wrapped_rows(neighbours: Neighbours, ground: &Ground) -> Vec<Option<Cell>> {
+    let mut found = first_receivers(neighbours, ground);
     for row in 1..ground.size.height {
         let cell = Cell::at(row * ground.size.width);
         let before = Cell(cell.0 - 1);
@@ -147,8 +152,8 @@ fn numbered_as_met(first_receivers: &[Option<Cell>]) -> Basins {
     }
 }
 
-fn height_of_lesser(ground: &Ground, basins: &Basins) -> Vec<Crossing> {
-    let mut crossings = passes::crossings(ground, basins);
+fn height_of_lesser(neighbours: Neighbours, ground: &Ground, basins: &Basins) -> Vec<Crossing> {
+    let mut crossings = passes::crossings(neighbours, ground, basins);
     for crossing in &mut crossings {
         crossing.height = ground.height(crossing.lesser);
     }

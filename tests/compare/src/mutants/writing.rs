@@ -1,54 +1,52 @@
 //! Mutants that write or answer wrongly: bytes touched that should not be, or a record or an answer
 //! put together wrong.
 
-use super::Mutant;
-use crate::library::Library;
+use second::neighbours::Neighbours;
 
-pub const MUTANTS: &[Mutant<Library>] = mutants![
-    "writes before it judges" => |ground, network| {
+use super::{right, Mutant, NetworkCall};
+
+/// A library that alters an accepted record after it has been written.
+macro_rules! patched {
+    ($patch:expr) => {
+        |neighbours, ground, network| patched(neighbours, ground, network, $patch)
+    };
+}
+
+pub const MUTANTS: &[Mutant<NetworkCall>] = mutants![
+    "writes before it judges" => |neighbours, ground, network| {
         if let Some(first) = network.first_mut() {
             *first = 0;
         }
-        second::call(ground, network)
+        right(neighbours, ground, network)
     },
-    "a byte past the record cleared" => |ground, network| {
-        patched(ground, network, |room, length, _| {
-            if let Some(past) = room.get_mut(length) {
-                *past = 0;
-            }
-        })
-    },
-    "the last byte not written" => |ground, network| {
-        patched(ground, network, |room, length, before| room[length - 1] = before[length - 1])
-    },
-    "a distance off by one" => |ground, network| {
-        patched(ground, network, |room, length, _| room[length - 4] ^= 1)
-    },
-    "width and height exchanged" => |ground, network| {
-        patched(ground, network, |room, length, _| room[length - 28..length - 24].rotate_left(2))
-    },
-    "the largest order ends too soon" => |ground, network| {
-        patched(ground, network, |room, length, _| {
-            if length == 61_468 {
-                room[24_574..24_576].fill(0);
-            }
-        })
-    },
-    "sample D's network for every 3 by 3 tile" => |ground, network| {
-        patched(ground, network, |room, length, _| {
-            if room[length - 28..length - 24] == [3, 0, 3, 0] {
-                room[..length].copy_from_slice(&sample_d());
-            }
-        })
-    },
-    "the answer is the length of the room" => |ground, network| {
-        match second::call(ground, network) {
+    "a byte past the record cleared" => patched!(|room, length, _| {
+        if let Some(past) = room.get_mut(length) {
+            *past = 0;
+        }
+    }),
+    "the last byte not written" =>
+        patched!(|room, length, before| room[length - 1] = before[length - 1]),
+    "a distance off by one" => patched!(|room, length, _| room[length - 4] ^= 1),
+    "width and height exchanged" =>
+        patched!(|room, length, _| room[length - 28..length - 24].rotate_left(2)),
+    "the largest order ends too soon" => patched!(|room, length, _| {
+        if length == 61_468 {
+            room[24_574..24_576].fill(0);
+        }
+    }),
+    "sample D's network for every 3 by 3 tile" => patched!(|room, length, _| {
+        if room[length - 28..length - 24] == [3, 0, 3, 0] {
+            room[..length].copy_from_slice(&sample_d());
+        }
+    }),
+    "the answer is the length of the room" => |neighbours, ground, network| {
+        match right(neighbours, ground, network) {
             answer if answer < 65_536 => network.len() as u32,
             answer => answer,
         }
     },
-    "number and place exchanged in the answer" => |ground, network| {
-        match second::call(ground, network) {
+    "number and place exchanged in the answer" => |neighbours, ground, network| {
+        match right(neighbours, ground, network) {
             answer if answer < 65_536 => answer,
             answer => answer.rotate_left(16),
         }
@@ -57,9 +55,14 @@ pub const MUTANTS: &[Mutant<Library>] = mutants![
 
 /// The right answer, with an accepted record altered after it has been written. The patch is given
 /// the room, the length written and the room as it was before.
-fn patched(ground: &[u8], network: &mut [u8], patch: fn(&mut [u8], usize, &[u8])) -> u32 {
+fn patched(
+    neighbours: Neighbours,
+    ground: &[u8],
+    network: &mut [u8],
+    patch: fn(&mut [u8], usize, &[u8]),
+) -> u32 {
     let before = network.to_vec();
-    let answer = second::call(ground, network);
+    let answer = right(neighbours, ground, network);
     if answer < 65_536 {
         patch(network, answer as usize, &before);
     }

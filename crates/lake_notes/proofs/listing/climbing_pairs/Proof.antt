@@ -18,13 +18,16 @@ slice-aggregate-sort-pairs c =
 
 sort-pairs-requires : tie.Need-sort-pairs-requires
 sort-pairs-requires c κs =
-    let listed = c .before .before .before in
-    wet-sortable (listed .before .before .before .before .before .pre .0) (listed .wet-pairs .ensures .0 .first)
+    let listed = c .before .before .before .before in
+    let l = listed .wet-pairs in
+    let st = listed .before .before .before .before .before in
+    let n = length-take-le (l .result) (l .last .1 .1 .1 .0) (omega (arith, l .ensures .1, l .kept .1 .1 .1 .0, st .pre .1)) in
+    (wet-sortable (st .pre .0) (l .ensures .0 .first), omega (arith, n, l .ensures .1, st .pre .0 .grid .few))
 
 returns : tie.Need-returns
 returns c =
-    let s = c .before .before .sort-pairs in
-    let listed = c .before .before .before .before .before .before in
+    let s = c .before .before .before .sort-pairs in
+    let listed = c .before .before .before .before .before .before .before .before in
     let l = listed .wet-pairs in
     let st = listed .before .before .before .before .before in
     let l₁ = l .last .1 .1 .1 .0 in
@@ -41,6 +44,7 @@ climbing-pairs-spec =
     (tie.spec
     (λ c κs. search needs) (λ c. search needs)
     slice-aggregate-sort-pairs
+    (λ c. search needs)
     sort-pairs-requires
     (λ c. search needs)
     returns)

@@ -4,11 +4,10 @@ use mathlib.Core.Path.{_∙_, _≡_}
 use native.Mathlib.Omega.{arith}
 use lib.ListN.{length}
 use borrow.Author.Needs.{needs}
-use Rattle.grid.specs.Window.{sides}
 use Rattle.groups.proofs.Merging.{one-root, other-root, Searched, searched}
 use Rattle.groups.specs.Groups.{Root}
 use Rattle.lake_notes.proofs.Turns.{met-one, met-two}
-use Rattle.pairs.proofs.Pairs.{side-rises}
+use Rattle.pairs.proofs.Pairs.{pair-climbs}
 use Rattle.pairs.specs.Pairs.{greaterOf, lesserOf}
 use Rattle.lake_notes.proofs.meeting.join_pair.Statement.{statement}
 use Rattle.lake_notes.proofs.meeting.join_pair.Tie as tie
@@ -21,7 +20,7 @@ both : (c : tie.After-find-cell2)
     let h = c .find-cell2 .last .0 in
     let r = one .find-cell .result .0 in
     let s = c .find-cell2 .result .0 in
-    Searched (a .group .now) (lesserOf sides (a .p)) (greaterOf sides (a .w) (a .p)) h r s × Root h r × Root h s
+    Searched (a .group .now) (lesserOf (a .p)) (greaterOf (a .w) (a .p)) h r s × Root h r × Root h s
     × (length h ≡ length (a .heights .now))
 both c =
     let one = c .before .before .before .before in
@@ -31,15 +30,15 @@ both c =
     let h = c .find-cell2 .last .0 in
     let F = searched (rw (near .lesser .ensures) at (one .find-cell .ensures)) (rw (far .greater .ensures) at (c .find-cell2 .ensures)) in
     let long = c .find-cell2 .kept .0 ∙ one .find-cell .kept .0 ∙ st .pre .1 .group-sized in
-    let rise = side-rises (st .args .w) (st .args .p) in
-    (F, one-root F (omega (arith, long, st .pre .0 .2, rise)), other-root F (omega (arith, long, st .pre .0 .2)), long)
+    let rise = pair-climbs (st .args .w) (st .args .p) (st .pre .0 .0) in
+    (F, one-root F (omega (arith, long, st .pre .0 .3, rise)), other-root F (omega (arith, long, st .pre .0 .3)), long)
 
 find-cell-requires : tie.Need-find-cell-requires
 find-cell-requires c κs =
     let near = c .before .before in
     let st = near .before .before .before .before .before .before .before in (
-      rw (near .lesser .ensures) (omega (arith, st .pre .1 .group-sized, st .pre .0 .2, side-rises (st .args .w) (st .args .p))),
-      st .pre .0 .3,
+      rw (near .lesser .ensures) (omega (arith, st .pre .1 .group-sized, st .pre .0 .3, pair-climbs (st .args .w) (st .args .p) (st .pre .0 .0))),
+      st .pre .0 .4,
     )
 
 find-cell-requires-2 : tie.Need-find-cell-requires-2
@@ -47,7 +46,7 @@ find-cell-requires-2 c κs =
     let found = c .before .before .before in
     let far = found .before .before in
     let st = far .before .before .before .before .before .before .before .before in (
-      rw (far .greater .ensures) (omega (arith, st .pre .1 .group-sized, st .pre .0 .2, found .find-cell .kept .0)),
+      rw (far .greater .ensures) (omega (arith, st .pre .1 .group-sized, st .pre .0 .3, found .find-cell .kept .0)),
       found .find-cell .ensures .1 .down,
     )
 
@@ -64,8 +63,8 @@ flag-meeting-requires c κs =
     let size = st .pre .1 in
     let long = b .3 in (
       (
-        rw (near .lesser .ensures) (omega (arith, st .pre .0 .2, side-rises (st .args .w) (st .args .p))),
-        rw (far .greater .ensures) (st .pre .0 .2),
+        rw (near .lesser .ensures) (omega (arith, st .pre .0 .3, pair-climbs (st .args .w) (st .args .p) (st .pre .0 .0))),
+        rw (far .greater .ensures) (st .pre .0 .3),
         size .flags-fit,
       ),
       (
@@ -98,8 +97,8 @@ returns-2 c =
     let near = far .before in
     let st = near .before .before .before .before .before .before .before in
     let long = b .3 in
-    let rise = side-rises (st .args .w) (st .args .p) in
-    met-two (b .0) (high .before .if1 .left) (omega (arith, long, st .pre .0 .2, rise)) (omega (arith, long, st .pre .0 .2)) (hung .0) (hung .1)
+    let rise = pair-climbs (st .args .w) (st .args .p) (st .pre .0 .0) in
+    met-two (b .0) (high .before .if1 .left) (omega (arith, long, st .pre .0 .3, rise)) (omega (arith, long, st .pre .0 .3)) (hung .0) (hung .1)
     (rw (near .lesser .ensures, far .greater .ensures) at (flagged .flag-meeting .ensures)) (hung .2)
     (rw (high .height .ensures) at (hung .3))
 

@@ -31,7 +31,7 @@ join-pair-requires c κs =
     let lp = test .before in
     let C = lp .before .before .before .before .before .before .before .before .pre .0 in
     let T = lp .loop .inv .1 in
-    ((C .narrow, C .few, greater-on C (lp .loop .i) (test .loop-test .taken), T .so-far [] .groups .down), T .size)
+    ((C .wide, C .narrow, C .few, greater-on C (lp .loop .i) (test .loop-test .taken), T .so-far [] .groups .down), T .size)
 
 loop-again : tie.Need-loop-again Inv-loop μ-loop
 loop-again c =

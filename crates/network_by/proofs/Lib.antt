@@ -1,0 +1,4 @@
+pub mod Counts
+pub mod ForC
+pub mod Demands
+pub mod OneOutcome

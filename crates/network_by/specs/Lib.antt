@@ -1,0 +1,4 @@
+pub mod Counted
+pub mod CountSamples
+pub mod Calls
+pub mod ReadAnswer

@@ -1,0 +1,2 @@
+pub mod RecordCall
+pub mod ReadAnswer
