@@ -108,30 +108,21 @@ pub fn two_colours(chance: &mut Chance, size: Size) -> Vec<i32> {
 #[cfg(test)]
 mod tests {
     use super::*;
+    use crate::families::testing;
     use second::first_receivers::{first_receivers, steepness};
     use second::ground::Cell;
     use second::neighbours::Neighbours;
     use second::network::network_by;
-    use second::record;
     use std::collections::HashMap;
 
     /// So many tiles of a family.
     fn tiles(name: &str, count: u64) -> Vec<Ground> {
-        let family = DIAGONAL_FAMILIES.iter().find(|family| family.name == name);
-        let make = family.unwrap_or_else(|| panic!("no {name}")).make;
-        (0..count)
-            .map(|index| make(&mut Chance::of_case(5, index)))
-            .collect()
+        testing::tiles(&DIAGONAL_FAMILIES, name, count)
     }
 
     #[test]
     fn every_tile_is_a_sound_ground() {
-        for family in &DIAGONAL_FAMILIES {
-            for ground in tiles(family.name, 200) {
-                let judged = record::check(&record::bytes(&ground));
-                assert!(judged.is_ok(), "{}: {judged:?}", family.name);
-            }
-        }
+        testing::all_are_sound(&DIAGONAL_FAMILIES, 200);
     }
 
     #[test]

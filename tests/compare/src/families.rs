@@ -152,3 +152,29 @@ pub fn water(chance: &mut Chance, size: Size) -> Vec<u16> {
         })
         .collect()
 }
+
+/// What the tests of every list of families share.
+#[cfg(test)]
+pub mod testing {
+    use super::{Chance, Family, Ground};
+    use second::record;
+
+    /// So many tiles of a family of the list.
+    pub fn tiles(families: &[Family], name: &str, count: u64) -> Vec<Ground> {
+        let family = families.iter().find(|family| family.name == name);
+        let make = family.unwrap_or_else(|| panic!("no {name}")).make;
+        (0..count)
+            .map(|index| make(&mut Chance::of_case(5, index)))
+            .collect()
+    }
+
+    /// So many tiles of each family are sound grounds.
+    pub fn all_are_sound(families: &[Family], count: u64) {
+        for family in families {
+            for ground in tiles(families, family.name, count) {
+                let judged = record::check(&record::bytes(&ground));
+                assert!(judged.is_ok(), "{}: {judged:?}", family.name);
+            }
+        }
+    }
+}

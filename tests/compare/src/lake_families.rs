@@ -260,27 +260,18 @@ pub fn too_deep(chance: &mut Chance) -> Ground {
 #[cfg(test)]
 mod tests {
     use super::*;
+    use crate::families::testing;
     use second::lakes::{lakes, listed, Lake};
-    use second::record;
     use second::refusal::Refusal;
 
     /// So many tiles of a family.
     fn tiles(name: &str, count: u64) -> Vec<Ground> {
-        let family = LAKE_FAMILIES.iter().find(|family| family.name == name);
-        let make = family.unwrap_or_else(|| panic!("no {name}")).make;
-        (0..count)
-            .map(|index| make(&mut Chance::of_case(5, index)))
-            .collect()
+        testing::tiles(&LAKE_FAMILIES, name, count)
     }
 
     #[test]
     fn every_tile_is_a_sound_ground() {
-        for family in &LAKE_FAMILIES {
-            for ground in tiles(family.name, 30) {
-                let judged = record::check(&record::bytes(&ground));
-                assert!(judged.is_ok(), "{}: {judged:?}", family.name);
-            }
-        }
+        testing::all_are_sound(&LAKE_FAMILIES, 30);
     }
 
     #[test]
