@@ -89,6 +89,35 @@ fn tile(families: &[Family], family: usize, number: usize) -> Tile {
     }
 }
 
+/// What the tests of every list of families share.
+#[cfg(test)]
+pub mod testing {
+    use super::{tiles_of, Family, TILES_OF_EACH};
+    use second::ground::Ground;
+    use second::record;
+
+    /// The tiles of one family of the list.
+    pub fn grounds(families: &[Family], name: &str) -> Vec<Ground> {
+        let number = families.iter().position(|family| family.name == name);
+        let number = number.unwrap_or_else(|| panic!("no {name}"));
+        let tiles = tiles_of(families).into_iter();
+        let of_family = tiles.filter(|tile| tile.family == number);
+        of_family
+            .map(|tile| record::read(&tile.record).expect("a sound tile"))
+            .collect()
+    }
+
+    /// Every family has its tiles, and all are sound grounds.
+    pub fn all_are_sound(families: &[Family]) {
+        let tiles = tiles_of(families);
+        assert_eq!(tiles.len(), families.len() * TILES_OF_EACH);
+        for tile in tiles {
+            let name = families[tile.family].name;
+            assert!(record::check(&tile.record).is_ok(), "{name}");
+        }
+    }
+}
+
 #[cfg(test)]
 mod tests {
     use super::*;

@@ -69,31 +69,19 @@ fn zigzag(chance: &mut Chance, size: Size) -> Vec<i32> {
 #[cfg(test)]
 mod tests {
     use super::*;
-    use crate::adversarial::{tiles_of, TILES_OF_EACH};
+    use crate::adversarial::testing;
     use second::first_receivers::first_receivers;
     use second::ground::{Cell, Ground};
     use second::neighbours::Neighbours;
     use second::network::network_by;
-    use second::record;
 
     fn grounds(name: &str) -> Vec<Ground> {
-        let number = FAMILIES.iter().position(|family| family.name == name);
-        let number = number.unwrap_or_else(|| panic!("no {name}"));
-        let tiles = tiles_of(&FAMILIES).into_iter();
-        let of_family = tiles.filter(|tile| tile.family == number);
-        of_family
-            .map(|tile| record::read(&tile.record).expect("a sound tile"))
-            .collect()
+        testing::grounds(&FAMILIES, name)
     }
 
     #[test]
     fn every_tile_is_a_sound_ground() {
-        let tiles = tiles_of(&FAMILIES);
-        assert_eq!(tiles.len(), FAMILIES.len() * TILES_OF_EACH);
-        for tile in tiles {
-            let name = FAMILIES[tile.family].name;
-            assert!(record::check(&tile.record).is_ok(), "{name}");
-        }
+        testing::all_are_sound(&FAMILIES);
     }
 
     #[test]

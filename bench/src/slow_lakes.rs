@@ -225,33 +225,19 @@ fn two_high_checkers(chance: &mut Chance, size: Size) -> Vec<i32> {
 #[cfg(test)]
 mod tests {
     use super::*;
-    use crate::adversarial::{tiles_of, TILES_OF_EACH};
+    use crate::adversarial::testing;
     use second::lakes::{lakes, listed, Lake};
-    use second::record;
     use second::refusal::Refusal;
 
     /// The outermost lakes of each tile of a family.
     fn found(name: &str) -> Vec<Result<Vec<Lake>, Refusal>> {
-        let number = FAMILIES.iter().position(|family| family.name == name);
-        let number = number.unwrap_or_else(|| panic!("no {name}"));
-        let tiles = tiles_of(&FAMILIES).into_iter();
-        let of_family = tiles.filter(|tile| tile.family == number);
-        of_family
-            .map(|tile| lakes(&record::read(&tile.record).expect("a sound tile")))
-            .collect()
+        let tiles = testing::grounds(&FAMILIES, name);
+        tiles.iter().map(lakes).collect()
     }
 
     #[test]
     fn every_tile_is_a_sound_ground() {
-        let tiles = tiles_of(&FAMILIES);
-        assert_eq!(tiles.len(), FAMILIES.len() * TILES_OF_EACH);
-        for tile in tiles {
-            assert!(
-                record::check(&tile.record).is_ok(),
-                "{}",
-                FAMILIES[tile.family].name
-            );
-        }
+        testing::all_are_sound(&FAMILIES);
     }
 
     #[test]
