@@ -2,8 +2,8 @@
 -- refusal; so no answer says both.
 -- Assumes nothing.
 use mathlib.Core.List.{List}
-use mathlib.Core.Path.{ap, refl, sym, _∙_, _≡_}
-use Prim.Native.Nat.{ℕ, _*_, _+_, _<_, _≤_}
+use mathlib.Core.Path.{ap, refl, _≡_}
+use Prim.Native.Nat.{ℕ, _<_, _≤_}
 use native.Mathlib.Omega.{arith}
 use lib.ListN.{length}
 use Rattle.askvimur_service.specs.LakesCall.{lakesAnswerTo, lakesJudgement, lakesRoom}

@@ -3,7 +3,6 @@
 ghost use mathlib.Core.List.{List};
 ghost use mathlib.Core.Path.{_≡_};
 ghost use Prim.Native.Nat.{ℕ, _*_, _+_};
-ghost use lib.ListN.{length};
 ghost use Rattle.askvimur_service.specs.LakesCall.{LakesCalled, LakesCalledFromC, lakesAnswerTo, lakesRoom, roomLeft};
 ghost use Rattle.ground.specs.Record.{groundIn};
 ghost use Rattle.lake_calls.specs.LakeCall.{judgeFound, lakesNumber, lakesPlace};

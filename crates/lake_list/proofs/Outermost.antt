@@ -1,9 +1,8 @@
 -- The walk over the outermost lakes: each has the level of its first cell, and what is found is told by the first that is too deep, or by
 -- all of them.
 -- Assumes nothing.
-use mathlib.Core.Bool.{Bool, false}
-use mathlib.Core.List.{[], List, List·Memᴰ·head as in-head, List·Memᴰ·tail as in-tail, _++_, _∷_}
-use mathlib.Core.Path.{ap, refl, subst, sym, _∙_, _≡_}
+use mathlib.Core.List.{[], List, _++_, _∷_}
+use mathlib.Core.Path.{ap, subst, sym, _∙_, _≡_}
 use Prim.Native.Nat.{ℕ, _*_, _+_, _-_, _<_, _≤_}
 use native.Mathlib.Nat.{add-zero}
 use native.Mathlib.Omega.{arith}

@@ -1,7 +1,6 @@
 // The lakes of a tile: its levels by the stages of the network, and then its lakes, as rows in a lent list.
-ghost use mathlib.Core.List.{List};
 ghost use mathlib.Core.Path.{_≡_};
-ghost use Prim.Native.Nat.{ℕ, _*_, _≤_};
+ghost use Prim.Native.Nat.{_*_, _≤_};
 ghost use lib.ListN.{length};
 ghost use Rattle.ground.specs.Record.{groundIn};
 ghost use Rattle.lake_list.specs.Rows.{FoundIn};

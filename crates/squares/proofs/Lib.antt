@@ -1,4 +1,7 @@
 pub mod SquareKeys
+pub mod SquareCells
+pub mod SideRing
+pub mod Triangles
 pub mod LeftOut
 pub mod KeptPairs
 pub mod InSquares

@@ -197,7 +197,8 @@ module _ (N : Neighbours) (w : ℕ) (heights labels : List ℕ) where
           out l s e q (inl h) (inr v) = omega (arith, Q .last-row n s c e (third (says (q ∙ in-last-row s h v))) k)
           out l s e q (inl h) (inl v) =
               let f = Q .is s c e in
-              left-out-never N w heights marks labels T B s h v (Q .number) (Q .small) (subst (λ (p : ℕ). p ∈ placesBy N) (sym (Q .place s)) a)
+              left-out-never N w heights marks labels s (record { tile = T; labelled = B; column = h; above = v }) (Q .number) (Q .small)
+              (subst (λ (p : ℕ). p ∈ placesBy N) (sym (Q .place s)) a)
               (says (q ∙ begins s h v))
               (λ z. apart (ap (λ (x : Crossing). at labels (x .lesser)) (sym f) ∙ z ∙ ap (λ (x : Crossing). at labels (x .greater)) f))
               (subst (λ (x : Crossing). x ∈ chosen L) (sym f) m)

@@ -109,7 +109,7 @@ fn begin_squares(neighbours: Neighbours, w: usize, heights: &[u32], labels: &[u1
     }
 }
 
-// 13 at the end of each row.
+// 13 at the end of each row: no square begins there, and the pairs of bits 1, 4 and 8 would lead to the next row.
 fn end_rows(w: usize, n: usize, sq: &mut [u8])
     requires { ⌜ Grid w n × (n ≤ length (now sq)) ⌝ }
     ensures { λ _. ⌜ S.Ends w n (now (sq .entry)) (now (sq .exit)) ⌝ }
@@ -121,7 +121,8 @@ fn end_rows(w: usize, n: usize, sq: &mut [u8])
     }
 }
 
-// What the square that begins at each cell leaves out. The last row keeps its 8s: no square begins there.
+// What the square that begins at each cell leaves out. The last row keeps its 8s: no square begins there, and the pair of bit 8 would lead on
+// from its end.
 fn squares(neighbours: Neighbours, w: usize, heights: &[u32], labels: &[u16], sq: &mut [u8])
     requires { ⌜ S.Keyable (now heights) × (length (now labels) ≡ length (now heights)) ⌝ }
     requires { ⌜ Grid w (length (now heights)) × (length (now heights) ≤ length (now sq)) ⌝ }

@@ -1,7 +1,7 @@
 -- `network_record::answer_for_c` meets its contract: a refusal packed, or a length.
 -- Assumes nothing.
 use mathlib.Core.Path.{ap, subst, sym, _∙_}
-use Prim.Native.Nat.{_*_, _≤_}
+use Prim.Native.Nat.{_≤_}
 use native.Mathlib.Omega.{arith}
 use borrow.Author.Needs.{needs}
 use Rattle.network_record.specs.ReadAnswer.{lengthOf}

@@ -1,6 +1,6 @@
 -- `sections::write_u64` meets its contract: the bytes of a number are those of its low half, then those of its high half.
 -- Assumes nothing.
-use mathlib.Core.List.{[], List, _++_, _∷_}
+use mathlib.Core.List.{List, _++_}
 use mathlib.Core.Path.{ap, refl, _∙_, _≡_}
 use Prim.Native.Nat.{ℕ, _%_, _*_, _+_, _/_, _<_}
 use native.Mathlib.Omega.{arith}
