@@ -1,5 +1,6 @@
 pub mod Taken
 pub mod Winners
+pub mod LeastKeys
 pub mod Keys
 pub mod Weighing
 pub mod Selects
