@@ -1,6 +1,6 @@
 #!/usr/bin/env python3
-"""Writes the ground records of examples/tiles: the sample tiles A to G, the valley, the meadow, two lakes, a lake that is too deep to be
-listed, and one record for each refusal of a ground.
+"""Writes the ground records of examples/tiles: the sample tiles A to G, the valley, the meadow, the marsh, two lakes, a lake that is too
+deep to be listed, and one record for each refusal of a ground.
 
 The records are kept beside this script; run it to see how a ground record is made, or to make one of your own.
 """
@@ -73,6 +73,21 @@ def meadow():
     return ground_record(width, height, heights, marks, [1] * (width * height))
 
 
+def marsh():
+    """A level marsh below a slope in the west, and a lake in the east whose only way out is a sill. Carved, the marsh drains through one
+    trench; as a sheet it drains side by side, over the whole shore of the lake."""
+    width, height = 14, 8
+    heights = []
+    for y in range(height):
+        for x in range(width):
+            in_lake = 9 <= x <= 11 and 1 <= y <= 6
+            heights.append(60 if in_lake else 130 if x >= 12 else 100 + 30 * max(0, 2 - x))
+    sill, outlet = 4 * width + 12, 4 * width + 13
+    heights[sill], heights[outlet] = 90, 80
+    marks = [int(cell == outlet) for cell in range(width * height)]
+    return ground_record(width, height, heights, marks, [1] * (width * height))
+
+
 def two_lakes():
     """A lake in the west that becomes two when its water sinks to 120, a level meadow, and a pond in the east that never splits."""
     rows = [
@@ -116,7 +131,7 @@ def refusals():
 
 if __name__ == "__main__":
     os.makedirs(FOLDER, exist_ok=True)
-    scenes = [("valley", valley()), ("meadow", meadow()), ("two_lakes", two_lakes()), ("deep", deep())]
+    scenes = [("valley", valley()), ("meadow", meadow()), ("marsh", marsh()), ("two_lakes", two_lakes()), ("deep", deep())]
     for name, record in [*samples(), *scenes, *refusals()]:
         with open(os.path.join(FOLDER, name + ".ground"), "wb") as file:
             file.write(record)

@@ -3,13 +3,14 @@
  * Compiles as C99 and later and as C++; the C++ wrapper at its end is there from C++20 on. Link with libaskvimur_service.a, which
  * `rt staticlib askvimur_service` writes; it needs no other library. A program may link libaskvimur.a too, or either alone.
  *
- *   askvimur_network_by   the network of a ground record, over 4 or 8 neighbours (W-203)
+ *   askvimur_network_by   the network of a ground record, over 4 or 8 neighbours (W-203), carved or as a sheet (W-205)
  *   askvimur_lakes        its lakes (W-202), over 4
  *
  * WHAT IS PROMISED, AND BY WHOM
- *   Proved    For every ground record, every count of neighbours and every length of the room: the answer, and every byte of the room
- *             afterwards, are those of the rules, ties included. A refusal alters no byte. Bytes past the network record or past the last
- *             lake stay as they were. No read or write outside the record and the room, no overflow, and each call always returns.
+ *   Proved    For every ground record, every count of neighbours, every manner and every length of the room: the answer, and every byte
+ *             of the room afterwards, are those of the rules, ties included. A refusal alters no byte. Bytes past the network record or
+ *             past the last lake stay as they were. No read or write outside the record and the room, no overflow, and each call always
+ *             returns.
  *   Tested    That the compiled calls do what was proved: they are compared, byte for byte, with a second program in Rust. That nothing in
  *             them calls itself but the listing of a lake's lakes, at most 65 calls deep; how much stack and how much time they take. The
  *             functions that this header defines are plain C and C++: what they read of the sample tiles is compared with stored texts.
@@ -21,7 +22,7 @@
  *   - ground points to ground_len readable bytes, network and lakes to network_len and lakes_len writable ones;
  *   - what is lent to a call does not overlap.
  *   No pointer needs any alignment. The calls keep no state: threads may make them at the same time on different rooms. They use no heap.
- *   Of stack askvimur_network_by takes at most 176 KB: at most 164.7 KB were measured (168,632 bytes). askvimur_lakes takes at most 256 KB:
+ *   Of stack askvimur_network_by takes at most 176 KB: at most 173.1 KB were measured (177,280 bytes). askvimur_lakes takes at most 256 KB:
  *   at most 245.5 KB were measured (251,376 bytes).
  *
  * The ground record, its sizes and its refusals are those of askvimur.h, which this header includes. An accepted one has 23 to 28,688
@@ -32,28 +33,42 @@
 
 #include "askvimur.h"
 
-/* ---- the network over 4 or 8 neighbours (W-203) ------------------------------------------------------------------------------------
+/* ---- the network over 4 or 8 neighbours (W-203), carved or as a sheet (W-205) ------------------------------------------------------
  *
- * With 4 neighbours, those that share a side with a cell, the network is that of askvimur_network, byte for byte. With 8 the cells that
- * touch it at a corner are its neighbours too, and water may run on the diagonal. Which of the lower neighbours it runs to goes by
- * steepness: a diagonal drop b is steeper than a straight drop a exactly when b times b is greater than twice a times a, and of equally
- * steep ones the least cell number is taken. The record has the same form and the same length for both, and askvimur_receiver to
- * askvimur_wet read it. It doesn't say for how many neighbours it was made.
+ * With 4 neighbours, those that share a side with a cell, and carved, the network is that of askvimur_network, byte for byte. With 8 the
+ * cells that touch it at a corner are its neighbours too, and water may run on the diagonal. Which of the lower neighbours it runs to goes
+ * by steepness: a diagonal drop b is steeper than a straight drop a exactly when b times b is greater than twice a times a, and of equally
+ * steep ones the least cell number is taken.
+ *
+ * Carving leads the water of a level plain through one trench. As a sheet it runs side by side. A cell that isn't an outlet drains to its
+ * neighbour of lowest water level, where that is lower than its own. Where none is lower, it drains through neighbours of its own level,
+ * by the fewest steps, to an outlet or to a cell that has a neighbour of lower level. Of several neighbours that would do the least cell
+ * number is taken. Levels, basins and wet are the same in both manners; receivers, order and drainage differ.
+ *
+ * The record has the same form and the same length for all, and askvimur_receiver to askvimur_wet read it. It doesn't say for how many
+ * neighbours or in which manner it was made.
  */
 
-/* Why a network over the neighbours asked for is refused, before all the refusals of askvimur.h. */
+/* The manners that can be asked for. */
+#define ASKVIMUR_CARVE 1u /* rivers that are carved, as those of askvimur_network */
+#define ASKVIMUR_SHEET 2u /* sheet flow, for marshes */
+
+/* Why a network over the neighbours and in the manner asked for is refused, in this order, before all the refusals of askvimur.h. Both
+ * numbers are judged as whole 32-bit numbers: 65,540 neighbours are not 4. */
 enum askvimur_network_by_refusal {
-  ASKVIMUR_BAD_NEIGHBOURS = 11 /* neighbours is neither 4 nor 8, judged as a whole 32-bit number: 65,540 is not 4 */
+  ASKVIMUR_BAD_NEIGHBOURS = 11, /* neighbours is neither 4 nor 8 */
+  ASKVIMUR_BAD_MANNER = 12      /* manner is neither 1, ASKVIMUR_CARVE, nor 2, ASKVIMUR_SHEET */
 };
 
 #ifdef __cplusplus
 extern "C" {
 #endif
 
-/* Works out the network of a ground record over 4 or 8 neighbours and writes its record from the room's start on. A room of
- * ASKVIMUR_MAX_NETWORK_BYTES is always long enough; a tile of N cells needs ASKVIMUR_NETWORK_BYTES(N). The answer is the length written,
- * 43 to 61,468, or, for a refusal, its number times 65,536 plus its place: the two never meet. */
-uint32_t askvimur_network_by(uint32_t neighbours, const uint8_t *ground, size_t ground_len, uint8_t *network, size_t network_len);
+/* Works out the network of a ground record over 4 or 8 neighbours, carved or as a sheet, and writes its record from the room's start on. A
+ * room of ASKVIMUR_MAX_NETWORK_BYTES is always long enough; a tile of N cells needs ASKVIMUR_NETWORK_BYTES(N). The answer is the length
+ * written, 43 to 61,468, or, for a refusal, its number times 65,536 plus its place: the two never meet. */
+uint32_t askvimur_network_by(uint32_t neighbours, uint32_t manner, const uint8_t *ground, size_t ground_len, uint8_t *network,
+                             size_t network_len);
 
 #ifdef __cplusplus
 }
@@ -64,6 +79,7 @@ uint32_t askvimur_network_by(uint32_t neighbours, const uint8_t *ground, size_t 
 static inline const char *askvimur_network_by_reason(uint32_t number) {
   switch (number) {
     case ASKVIMUR_BAD_NEIGHBOURS: return "the count of neighbours is neither 4 nor 8";
+    case ASKVIMUR_BAD_MANNER: return "the manner is neither 1 (carve) nor 2 (sheet)";
     default: return askvimur_reason(number);
   }
 }
@@ -130,7 +146,7 @@ static inline uint64_t askvimur_lake_volume(const uint8_t *lakes, size_t i) {
 
 namespace askvimur {
 
-/* The answer of a call that is told the neighbours. */
+/* The answer of a call that is told the neighbours and the manner. */
 class NetworkByAnswer {
  public:
   explicit NetworkByAnswer(std::uint32_t answer) : answer_(answer) {}
@@ -145,19 +161,21 @@ class NetworkByAnswer {
 };
 
 /* The call over spans. A span may be empty; the two must not overlap. */
-inline NetworkByAnswer network_by(std::uint32_t neighbours, std::span<const std::uint8_t> ground, std::span<std::uint8_t> record) {
+inline NetworkByAnswer network_by(std::uint32_t neighbours, std::uint32_t manner, std::span<const std::uint8_t> ground,
+                                  std::span<std::uint8_t> record) {
   /* an empty span may have a null pointer, which the call must not be handed */
   static constexpr std::uint8_t none = 0;
   std::uint8_t spare = 0;
-  return NetworkByAnswer(askvimur_network_by(neighbours, ground.empty() ? &none : ground.data(), ground.size(),
+  return NetworkByAnswer(askvimur_network_by(neighbours, manner, ground.empty() ? &none : ground.data(), ground.size(),
                                              record.empty() ? &spare : record.data(), record.size()));
 }
 
-/* An accepted tile's network over the neighbours asked for: owns its record, and reads it as Network does. */
+/* An accepted tile's network over the neighbours and in the manner asked for: owns its record, and reads it as Network does. */
 class NetworkBy : public NetworkRecord {
  public:
   /* Works out the network of a ground record. Ask answer().accepted() before anything else. */
-  NetworkBy(std::uint32_t neighbours, std::span<const std::uint8_t> ground) : answer_(askvimur::network_by(neighbours, ground, room())) {
+  NetworkBy(std::uint32_t neighbours, std::uint32_t manner, std::span<const std::uint8_t> ground)
+      : answer_(askvimur::network_by(neighbours, manner, ground, room())) {
     keep(answer_.length());
   }
   const NetworkByAnswer &answer() const { return answer_; }

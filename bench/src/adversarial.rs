@@ -1,5 +1,5 @@
 //! The adversarial tiles: 64 by 64, each family made to be slow. They are measured apart from the mix, tile by tile. Those here are for
-//! the network; `slow_lakes.rs` has the families for lakes, and `slow_diagonals.rs` those for 8 neighbours.
+//! the network; `slow_lakes.rs` has the families for lakes, `slow_diagonals.rs` those for 8 neighbours, and `slow_sheets.rs` those for sheets.
 
 use compare::chance::Chance;
 use compare::families;
@@ -93,7 +93,7 @@ fn tile(families: &[Family], family: usize, number: usize) -> Tile {
 #[cfg(test)]
 pub mod testing {
     use super::{tiles_of, Family, TILES_OF_EACH};
-    use second::ground::Ground;
+    use second::ground::{Cell, Ground};
     use second::record;
 
     /// The tiles of one family of the list.
@@ -105,6 +105,14 @@ pub mod testing {
         of_family
             .map(|tile| record::read(&tile.record).expect("a sound tile"))
             .collect()
+    }
+
+    /// The longest way along these receivers, in cells.
+    pub fn longest_way(receivers: &[Cell]) -> usize {
+        let next = |&at: &Cell| Some(receivers[at.index()]).filter(|&to| to != at);
+        let cells = |start| std::iter::successors(Some(start), next).count();
+        let starts = (0..receivers.len()).map(Cell::at);
+        starts.map(cells).max().unwrap_or(0)
     }
 
     /// Every family has its tiles, and all are sound grounds.

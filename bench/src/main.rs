@@ -1,12 +1,15 @@
-//! The benchmark: each of our calls beside its plain version, on the mix of tiles and on adversarial ones.
+//! The benchmark: each of our calls beside its plain version, on the mix of tiles and on adversarial ones, and sheet flow beside carving.
 
 use std::env;
 use std::process::ExitCode;
 
 use bench::adversarial::{self, Family};
-use bench::race::{Best, Race, Times};
+use bench::race::{Race, Times};
+use bench::runs::Run;
+use bench::tables::{print_all_slow, print_beside, print_mix, Beside, Greatest};
 use bench::tiles::{tile, Tile};
-use bench::{slow_diagonals, slow_lakes, tiles};
+use bench::{slow_diagonals, slow_lakes, slow_sheets, tiles};
+use compare::asked::{CARVE, SHEET};
 use compare::library::under_test;
 
 /// How many tiles of the mix a run takes when nothing else is asked for.
@@ -34,22 +37,9 @@ fn main() -> ExitCode {
         "{count} tiles of 64 by 64, seed {SEED}; each time is the least of {ROUNDS} runs or more"
     );
     let mix: Vec<Tile> = (0..count).map(|number| tile(SEED, number)).collect();
-    let mut runs = Runs {
-        network: Run::new(Race::network(), &mix, &[&adversarial::FAMILIES]),
-        lakes: Run::new(
-            Race::lakes(),
-            &mix,
-            &[&slow_lakes::FAMILIES, &adversarial::FAMILIES],
-        ),
-        by_8: Run::new(
-            Race::network_by_8(),
-            &mix,
-            &[&slow_diagonals::FAMILIES, &adversarial::FAMILIES],
-        ),
-        by_4: Run::new(Race::network_by_4(), &mix, &[]),
-    };
-    measure(&mix, &mut runs);
-    print_all(&mix, &runs);
+    let mut runs = Runs::new(&mix);
+    runs.measure(&mix);
+    runs.print(&mix);
     ExitCode::SUCCESS
 }
 
@@ -57,173 +47,172 @@ fn main() -> ExitCode {
 struct Runs {
     network: Run,
     lakes: Run,
-    by_8: Run,
-    by_4: Run,
+    by_8: InBothManners,
+    by_4: InBothManners,
 }
 
-/// One call, its adversarial tiles, and the least time of every tile.
-struct Run {
-    race: Race,
-    mix_best: Vec<Best>,
-    slow: Vec<Slow>,
+/// The call that is told neighbours and manner, in both manners on the same tiles.
+struct InBothManners {
+    carve: Run,
+    sheet: Run,
 }
 
-/// The adversarial tiles of some families.
-struct Slow {
-    families: &'static [Family],
-    tiles: Vec<Tile>,
-    best: Vec<Best>,
-}
-
-impl Run {
-    fn new(race: Race, mix: &[Tile], families: &[&'static [Family]]) -> Run {
-        let slow = families.iter().map(|families| {
-            let tiles = adversarial::tiles_of(families);
-            let best = vec![Best::NONE; tiles.len()];
-            Slow {
-                families,
-                tiles,
-                best,
-            }
-        });
-        Run {
-            race,
-            mix_best: vec![Best::NONE; mix.len()],
-            slow: slow.collect(),
-        }
-    }
-
-    fn round_of_slow(&mut self) {
-        for Slow { tiles, best, .. } in &mut self.slow {
-            self.race.round(tiles, best);
+impl InBothManners {
+    /// The plateaus, made to be slow for sheets, come first of the adversarial families.
+    fn new(neighbours: u32, mix: &[Tile], families: &[&'static [Family]]) -> InBothManners {
+        let families = [&[&slow_sheets::FAMILIES[..]], families].concat();
+        let run = |manner| Run::new(Race::network_by(neighbours, manner), mix, &families);
+        InBothManners {
+            carve: run(CARVE),
+            sheet: run(SHEET),
         }
     }
 }
 
-/// The least times of every tile. All others are run between two runs of the same one, so that its runs are far apart, and the calls
-/// take turns, so that they meet the machine in the same state.
-fn measure(mix: &[Tile], runs: &mut Runs) {
-    let part = mix.len().div_ceil(OFTENER);
-    for _ in 0..ROUNDS {
-        for (number, tiles) in mix.chunks(part).enumerate() {
-            for run in [
-                &mut runs.network,
-                &mut runs.lakes,
-                &mut runs.by_8,
-                &mut runs.by_4,
-            ] {
-                let end = number * part + tiles.len();
-                run.race.round(tiles, &mut run.mix_best[number * part..end]);
-                run.round_of_slow();
+impl Runs {
+    fn new(mix: &[Tile]) -> Runs {
+        let common = &adversarial::FAMILIES[..];
+        Runs {
+            network: Run::new(Race::network(), mix, &[common]),
+            lakes: Run::new(Race::lakes(), mix, &[&slow_lakes::FAMILIES, common]),
+            by_8: InBothManners::new(8, mix, &[&slow_diagonals::FAMILIES, common]),
+            by_4: InBothManners::new(4, mix, &[common]),
+        }
+    }
+
+    /// The least times of every tile. All others are run between two runs of the same one, so that its runs are far apart, and the
+    /// calls take turns, so that they meet the machine in the same state.
+    fn measure(&mut self, mix: &[Tile]) {
+        let part = mix.len().div_ceil(OFTENER);
+        for _ in 0..ROUNDS {
+            for (number, tiles) in mix.chunks(part).enumerate() {
+                for run in [
+                    &mut self.network,
+                    &mut self.lakes,
+                    &mut self.by_8.carve,
+                    &mut self.by_8.sheet,
+                    &mut self.by_4.carve,
+                    &mut self.by_4.sheet,
+                ] {
+                    run.round(number * part, tiles);
+                }
             }
         }
     }
+
+    /// The tables of each call and its figures, a line each. The last line is the ratio of the network over the mix.
+    fn print(&self, mix: &[Tile]) {
+        let network = print_network(mix, &self.network);
+        let mean = network.means().0;
+        print_lakes(mix, &self.lakes, mean);
+        let by_8 = print_by_8(mix, &self.by_8.carve);
+        let by_4 = print_by_4(mix, &self.by_4.carve);
+        print_sheets(8, mix, &self.by_8);
+        print_sheets(4, mix, &self.by_4);
+        println!("\nby 4 to plain: {:.3}", by_4.ratio());
+        println!("by 4 to network: {:.3}", by_4.means().0 / mean);
+        println!("by 8 to network: {:.3}", by_8.means().0 / mean);
+        println!("by 8 to plain: {:.3}", by_8.ratio());
+        println!("ratio {:.3}", network.ratio());
+    }
 }
 
-/// The tables of each call and its figures, a line each. The last line is the ratio of the network over the mix.
-fn print_all(mix: &[Tile], runs: &Runs) {
+fn print_network(mix: &[Tile], run: &Run) -> Times {
     println!("\nthe network");
-    let (network_mix, family) = print_mix(mix, &runs.network.mix_best);
-    println!("greatest ratio of a family: {family}");
-    let mean = network_mix.means().0;
-    let (slowest, name) = print_all_slow(&runs.network, mean);
-    println!("slowest adversarial tile: {slowest:.2} times the mean ({name})");
+    let (times, family) = print_mix(mix, &run.mix_best);
+    println!("greatest ratio of a family: {}", shown(&family));
+    let slowest = print_all_slow(run, times.means().0);
+    println!(
+        "slowest adversarial tile: {:.2} times the mean ({})",
+        slowest.figure, slowest.name
+    );
+    times
+}
 
+/// The mean time of the network is told.
+fn print_lakes(mix: &[Tile], run: &Run, network: f64) {
     println!("\nthe lakes");
-    let (lakes_mix, family) = print_mix(mix, &runs.lakes.mix_best);
-    println!("greatest lakes ratio of a family: {family}");
-    let lakes_mean = lakes_mix.means().0;
-    let (slowest, name) = print_all_slow(&runs.lakes, lakes_mean);
+    let (times, family) = print_mix(mix, &run.mix_best);
+    println!("greatest lakes ratio of a family: {}", shown(&family));
+    let mean = times.means().0;
+    let slowest = print_all_slow(run, mean);
     println!(
-        "slowest lakes tile: {:.3} ms ({name})",
-        slowest * lakes_mean / 1_000.0
+        "slowest lakes tile: {:.3} ms ({})",
+        slowest.figure * mean / 1_000.0,
+        slowest.name
     );
-    println!("lakes to network: {:.3}", lakes_mean / mean);
-    println!("lakes to plain: {:.3}", lakes_mix.ratio());
+    println!("lakes to network: {:.3}", mean / network);
+    println!("lakes to plain: {:.3}", times.ratio());
+}
 
+fn print_by_8(mix: &[Tile], run: &Run) -> Times {
     println!("\nthe network by 8 neighbours");
-    let (by_8, family) = print_mix(mix, &runs.by_8.mix_best);
-    println!("greatest ratio of a family by 8: {family}");
-    let by_8_mean = by_8.means().0;
-    let (slowest, name) = print_all_slow(&runs.by_8, by_8_mean);
-    println!("slowest tile by 8: {slowest:.2} times its mean ({name})");
+    let (times, family) = print_mix(mix, &run.mix_best);
+    println!("greatest ratio of a family by 8: {}", shown(&family));
+    let slowest = print_all_slow(run, times.means().0);
+    println!(
+        "slowest tile by 8: {:.2} times its mean ({})",
+        slowest.figure, slowest.name
+    );
+    times
+}
 
+/// Its adversarial tiles have the console's table, or stand beside those of sheets.
+fn print_by_4(mix: &[Tile], run: &Run) -> Times {
     println!("\nthe same call, told 4");
-    let (by_4, family) = print_mix(mix, &runs.by_4.mix_best);
-    println!("greatest ratio of a family by 4: {family}");
-    println!("by 4 to plain: {:.3}", by_4.ratio());
-    println!("by 4 to network: {:.3}", by_4.means().0 / mean);
-    println!("by 8 to network: {:.3}", by_8_mean / mean);
-    println!("by 8 to plain: {:.3}", by_8.ratio());
-    println!("ratio {:.3}", network_mix.ratio());
+    let (times, family) = print_mix(mix, &run.mix_best);
+    println!("greatest ratio of a family by 4: {}", shown(&family));
+    times
 }
 
-/// A line for each family of the mix and one for all. The answer is the sum of all, and the greatest ratio of a family with its name.
-fn print_mix(mix: &[Tile], best: &[Best]) -> (Times, String) {
+/// Sheet flow over these neighbours, beside the plain version's and beside carving.
+fn print_sheets(neighbours: u32, mix: &[Tile], runs: &InBothManners) {
+    println!("\nsheet flow by {neighbours} neighbours");
+    let (times, family) = print_mix(mix, &runs.sheet.mix_best);
     println!(
-        "{:<18}{:>8}{:>12}{:>12}{:>8}",
-        "family", "tiles", "ours us", "plain us", "ratio"
+        "greatest ratio of a family as a sheet by {neighbours}: {}",
+        shown(&family)
     );
-    let mut all = Times::default();
-    let mut greatest = (0.0, "");
-    for (number, (name, _)) in tiles::FAMILIES.iter().enumerate() {
-        let times: Times = of_family(number, mix, best).collect();
-        println!("{}", row(name, &times));
-        all.add(&times);
-        if times.ratio() > greatest.0 {
-            greatest = (times.ratio(), name);
-        }
-    }
-    println!("{}", row("all", &all));
-    (all, format!("{:.3} ({})", greatest.0, greatest.1))
-}
-
-/// All adversarial tables of a call. The answer is the slowest tile of all, in the mean time of the mix, and its name.
-fn print_all_slow(run: &Run, mean: f64) -> (f64, String) {
-    let slowest = run.slow.iter().map(|slow| print_slow(slow, mean));
-    let slowest = slowest.max_by(|(one, _), (other, _)| one.total_cmp(other));
-    slowest.expect("there are adversarial tiles")
-}
-
-/// The same for adversarial families, with the slowest tile of each. The answer is the slowest of all, in the mean time of the mix.
-fn print_slow(slow: &Slow, mean: f64) -> (f64, String) {
-    println!("\nadversarial tiles; the last column is the slowest tile of the family in mean times of the mix, {mean:.1} us");
+    let slowest = print_all_slow(&runs.sheet, times.means().0);
     println!(
-        "{:<18}{:>8}{:>12}{:>12}{:>8}{:>9}",
-        "family", "tiles", "ours us", "plain us", "ratio", "slowest"
+        "slowest tile as a sheet by {neighbours}: {:.2} times its mean ({})",
+        slowest.figure, slowest.name
     );
-    let mut slowest = (0.0, String::new());
-    for (number, family) in slow.families.iter().enumerate() {
-        let best = || of_family(number, &slow.tiles, &slow.best);
-        let longest = best()
-            .map(|best| best.ours.as_secs_f64() * 1e6 / mean)
-            .enumerate()
-            .max_by(|(_, one), (_, other)| one.total_cmp(other));
-        let (tile, longest) = longest.expect("each family has a tile");
-        println!("{}{longest:>9.2}", row(family.name, &best().collect()));
-        if longest > slowest.0 {
-            slowest = (longest, format!("{} {tile}", family.name));
-        }
+    println!("sheet by {neighbours} to plain: {:.3}", times.ratio());
+    let beside = print_beside_carving(mix, runs);
+    let families = beside.iter().map(|table| &table.family);
+    let greatest = families.max_by(|one, other| one.figure.total_cmp(&other.figure));
+    println!("sheet to carve by {neighbours}: {:.3}", beside[0].ratio);
+    println!(
+        "sheet to carve in a family by {neighbours}: {}",
+        shown(greatest.expect("there are families"))
+    );
+    println!(
+        "sheet to carve on a plateau by {neighbours}: {}",
+        shown(&beside[1].tile)
+    );
+}
+
+/// The mix, then the plateaus, then all other adversarial tiles.
+fn print_beside_carving(mix: &[Tile], runs: &InBothManners) -> Vec<Beside> {
+    println!("\nthe mix beside carving; the last column is the greatest ratio of a tile");
+    let names = tiles::FAMILIES.map(|(name, _)| name);
+    let sheet = &runs.sheet.mix_best;
+    let mut tables = vec![print_beside(&names, mix, sheet, &runs.carve.mix_best)];
+    for (number, (sheet, carve)) in runs.sheet.slow.iter().zip(&runs.carve.slow).enumerate() {
+        let what = if number == 0 {
+            "plateaus"
+        } else {
+            "adversarial tiles"
+        };
+        println!("\n{what} beside carving");
+        let names: Vec<&str> = sheet.families.iter().map(|family| family.name).collect();
+        let table = print_beside(&names, &sheet.tiles, &sheet.best, &carve.best);
+        tables.push(table);
     }
-    slowest
+    tables
 }
 
-fn of_family<'a>(
-    number: usize,
-    tiles: &'a [Tile],
-    best: &'a [Best],
-) -> impl Iterator<Item = Best> + 'a {
-    let pairs = tiles.iter().zip(best);
-    pairs
-        .filter(move |(tile, _)| tile.family == number)
-        .map(|(_, &best)| best)
-}
-
-fn row(name: &str, times: &Times) -> String {
-    let (ours, plain) = times.means();
-    format!(
-        "{name:<18}{:>8}{ours:>12.1}{plain:>12.1}{:>8.2}",
-        times.tiles,
-        times.ratio()
-    )
+fn shown(greatest: &Greatest) -> String {
+    format!("{:.3} ({})", greatest.figure, greatest.name)
 }

@@ -2,6 +2,11 @@
 //! All checks, record in, record out; crossings sorted by the standard library, union-find,
 //! carving by reversal. Its lists are kept between tiles, so that no time goes to allocation.
 //! What differs with 8 neighbours is rule 1, by steepness, and that crossings include diagonals.
+//! Sheet flow takes the levels of carving, and then other receivers (`sheet.rs`).
+
+mod sheet;
+
+use std::collections::VecDeque;
 
 /// Width and height are at most this.
 const MOST: usize = 64;
@@ -14,6 +19,13 @@ const NONE: u32 = u32::MAX;
 pub(crate) enum Neighbours {
     Four,
     Eight,
+}
+
+/// The manners that can be asked for.
+#[derive(Clone, Copy, PartialEq, Eq)]
+enum Manner {
+    Carve,
+    Sheet,
 }
 
 /// The lists that are kept between tiles.
@@ -32,6 +44,9 @@ pub struct Plain {
     first_half: Vec<u32>,
     halves: Vec<HalfPass>,
     waiting: Vec<u16>,
+    /// Of sheet flow: how many steps it is to where each cell's level ends, and the cells still to be looked at.
+    steps: Vec<u16>,
+    queue: VecDeque<u16>,
     /// Where each cell's givers begin in the list of givers.
     giver_starts: Vec<u16>,
     givers: Vec<u16>,
@@ -63,30 +78,52 @@ pub(crate) fn refused(number: u32, place: usize) -> u32 {
 impl Plain {
     /// The console's call: refusal number times 65,536 plus place, or the length written.
     pub fn call(&mut self, ground: &[u8], network: &mut [u8]) -> u32 {
-        self.network(Neighbours::Four, ground, network)
+        self.network(Neighbours::Four, Manner::Carve, ground, network)
     }
 
-    /// The service's call, which is told the neighbours.
-    pub fn call_by(&mut self, neighbours: u32, ground: &[u8], network: &mut [u8]) -> u32 {
-        match neighbours {
-            4 => self.network(Neighbours::Four, ground, network),
-            8 => self.network(Neighbours::Eight, ground, network),
-            _ => refused(11, 0),
-        }
+    /// The service's call, which is told the neighbours and the manner.
+    pub fn call_by(
+        &mut self,
+        neighbours: u32,
+        manner: u32,
+        ground: &[u8],
+        network: &mut [u8],
+    ) -> u32 {
+        let neighbours = match neighbours {
+            4 => Neighbours::Four,
+            8 => Neighbours::Eight,
+            _ => return refused(11, 0),
+        };
+        let manner = match manner {
+            1 => Manner::Carve,
+            2 => Manner::Sheet,
+            _ => return refused(12, 0),
+        };
+        self.network(neighbours, manner, ground, network)
     }
 
-    fn network(&mut self, neighbours: Neighbours, ground: &[u8], network: &mut [u8]) -> u32 {
+    fn network(
+        &mut self,
+        neighbours: Neighbours,
+        manner: Manner,
+        ground: &[u8],
+        network: &mut [u8],
+    ) -> u32 {
         match self.work_out(neighbours, ground, network.len()) {
             Ok(()) => {}
             Err(refusal) => return refusal,
         }
         let cells = self.width * self.height;
+        if manner == Manner::Sheet {
+            self.spread(neighbours, &ground[4 * cells..5 * cells]);
+            self.find_order();
+        }
         self.find_drainage(&ground[5 * cells..7 * cells]);
         self.write(&mut network[..15 * cells + 28]);
         (15 * cells + 28) as u32
     }
 
-    /// All of the network but the drainage, or why the ground or the room is refused.
+    /// All of the carved network but the drainage, or why the ground or the room is refused.
     pub(crate) fn work_out(
         &mut self,
         neighbours: Neighbours,
@@ -489,6 +526,7 @@ impl Groups {
 #[cfg(test)]
 mod tests {
     use super::*;
+    use compare::asked::{self, Asked};
     use compare::cases;
     use compare::exhaustive;
     use second::{network_record, record};
@@ -508,18 +546,19 @@ mod tests {
         }
     }
 
-    /// The same with 4 neighbours, with 8, and with counts that can't be asked for.
+    /// The same over the neighbours and in the manner asked for, and with counts and manners that can't be asked for.
     #[test]
-    fn the_plain_version_agrees_over_the_neighbours_asked_for() {
+    fn the_plain_version_agrees_on_what_is_asked_for() {
         let mut plain = Plain::default();
-        for index in 0..10_000 {
+        for index in 0..20_000 {
             let specimen = cases::NETWORK_BY.specimen(11, index);
-            let (neighbours, record) = (specimen.neighbours, &specimen.record);
+            let Asked { neighbours, manner } = specimen.asked;
             for &room in &specimen.rooms {
                 let (mut found, mut wanted) = (vec![0xA5; room], vec![0xA5; room]);
-                let answer = plain.call_by(neighbours, record, &mut found);
-                let wanted_answer = second::network_by_call(neighbours, record, &mut wanted);
-                assert_eq!(answer, wanted_answer);
+                let record = &specimen.record;
+                let answer = plain.call_by(neighbours, manner, record, &mut found);
+                let right = second::network_by_call(neighbours, manner, record, &mut wanted);
+                assert_eq!(answer, right);
                 assert_eq!(found, wanted, "{}, index {index}", specimen.family);
             }
         }
@@ -532,11 +571,12 @@ mod tests {
             let ground = exhaustive::tile(number);
             let bytes = record::bytes(&ground);
             let length = network_record::length(ground.size);
-            for neighbours in [4, 8] {
+            for asked in asked::RIGHT {
+                let Asked { neighbours, manner } = asked;
                 let (mut found, mut wanted) = (vec![0; length], vec![0; length]);
-                plain.call_by(neighbours, &bytes, &mut found);
-                second::network_by_call(neighbours, &bytes, &mut wanted);
-                assert_eq!(found, wanted, "tile {number}, {neighbours} neighbours");
+                plain.call_by(neighbours, manner, &bytes, &mut found);
+                second::network_by_call(neighbours, manner, &bytes, &mut wanted);
+                assert_eq!(found, wanted, "tile {number}, {asked}");
             }
         }
     }

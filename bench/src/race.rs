@@ -3,7 +3,7 @@
 
 use std::time::{Duration, Instant};
 
-use compare::library::{under_test, Library};
+use compare::library::under_test;
 
 use crate::plain::Plain;
 use crate::plain_lakes::PlainLakes;
@@ -12,18 +12,18 @@ use crate::tiles::Tile;
 /// Room for every network record, and for every list of lakes.
 const ROOM: usize = 65_536;
 
-/// The least time of each side on one tile.
+/// The least time of each side on one tile. The other side is the plain version, or another call of ours.
 #[derive(Clone, Copy)]
 pub struct Best {
     pub ours: Duration,
-    pub plain: Duration,
+    pub other: Duration,
 }
 
 impl Best {
     /// Before the first run.
     pub const NONE: Best = Best {
         ours: Duration::MAX,
-        plain: Duration::MAX,
+        other: Duration::MAX,
     };
 }
 
@@ -32,15 +32,15 @@ impl Best {
 pub struct Times {
     pub tiles: u32,
     pub ours: Duration,
-    pub plain: Duration,
+    pub other: Duration,
 }
 
 impl FromIterator<Best> for Times {
     fn from_iter<Tiles: IntoIterator<Item = Best>>(tiles: Tiles) -> Times {
         let mut all = Times::default();
-        for Best { ours, plain } in tiles {
+        for Best { ours, other } in tiles {
             let tiles = 1;
-            all.add(&Times { tiles, ours, plain });
+            all.add(&Times { tiles, ours, other });
         }
         all
     }
@@ -50,28 +50,28 @@ impl Times {
     pub fn add(&mut self, more: &Times) {
         self.tiles += more.tiles;
         self.ours += more.ours;
-        self.plain += more.plain;
+        self.other += more.other;
     }
 
-    /// Ours divided by plain.
+    /// Ours divided by the other.
     pub fn ratio(&self) -> f64 {
-        self.ours.as_secs_f64() / self.plain.as_secs_f64()
+        self.ours.as_secs_f64() / self.other.as_secs_f64()
     }
 
-    /// Our mean time on a tile, and the plain version's, in microseconds.
+    /// Our mean time on a tile, and the other side's, in microseconds.
     pub fn means(&self) -> (f64, f64) {
         let mean = |time: Duration| time.as_secs_f64() * 1e6 / f64::from(self.tiles.max(1));
-        (mean(self.ours), mean(self.plain))
+        (mean(self.ours), mean(self.other))
     }
 }
 
-/// A call as the plain version makes it, with lists that it keeps.
-type PlainCall = Box<dyn FnMut(&[u8], &mut [u8]) -> u32>;
+/// A call of either side. The plain version keeps its lists.
+type Call = Box<dyn FnMut(&[u8], &mut [u8]) -> u32>;
 
 /// Both sides, each with a room of its own.
 pub struct Race {
-    ours: Library,
-    plain: PlainCall,
+    ours: Call,
+    plain: Call,
     our_room: Vec<u8>,
     plain_room: Vec<u8>,
     rounds: usize,
@@ -82,33 +82,27 @@ impl Race {
     pub fn network() -> Race {
         let mut plain = Plain::default();
         let plain = move |ground: &[u8], room: &mut [u8]| plain.call(ground, room);
-        Race::of(under_test().askvimur_network, Box::new(plain))
+        Race::of(Box::new(under_test().askvimur_network), Box::new(plain))
     }
 
-    /// The network of a tile over 8 neighbours.
-    pub fn network_by_8() -> Race {
-        Race::of(
-            |ground, room| (under_test().askvimur_network_by)(8, ground, room),
-            plain_by(8),
-        )
-    }
-
-    /// The same call, told 4.
-    pub fn network_by_4() -> Race {
-        Race::of(
-            |ground, room| (under_test().askvimur_network_by)(4, ground, room),
-            plain_by(4),
-        )
+    /// The network of a tile over these neighbours and in this manner.
+    pub fn network_by(neighbours: u32, manner: u32) -> Race {
+        let ours = under_test().askvimur_network_by;
+        let ours = move |ground: &[u8], room: &mut [u8]| ours(neighbours, manner, ground, room);
+        let mut plain = Plain::default();
+        let plain =
+            move |ground: &[u8], room: &mut [u8]| plain.call_by(neighbours, manner, ground, room);
+        Race::of(Box::new(ours), Box::new(plain))
     }
 
     /// The lakes of a tile.
     pub fn lakes() -> Race {
         let mut plain = PlainLakes::default();
         let plain = move |ground: &[u8], room: &mut [u8]| plain.call(ground, room);
-        Race::of(under_test().askvimur_lakes, Box::new(plain))
+        Race::of(Box::new(under_test().askvimur_lakes), Box::new(plain))
     }
 
-    fn of(ours: Library, plain: PlainCall) -> Race {
+    fn of(ours: Call, plain: Call) -> Race {
         Race {
             ours,
             plain,
@@ -143,15 +137,9 @@ impl Race {
                 "the two sides differ on tile {index} of the round"
             );
             best.ours = best.ours.min(ours.time);
-            best.plain = best.plain.min(plain.time);
+            best.other = best.other.min(plain.time);
         }
     }
-}
-
-/// The plain version's call that is told the neighbours.
-fn plain_by(neighbours: u32) -> PlainCall {
-    let mut plain = Plain::default();
-    Box::new(move |ground, room| plain.call_by(neighbours, ground, room))
 }
 
 /// What one run of one side came to.
@@ -160,7 +148,7 @@ struct Run {
     time: Duration,
 }
 
-fn timed(call: &mut impl FnMut(&[u8], &mut [u8]) -> u32, record: &[u8], room: &mut [u8]) -> Run {
+fn timed(call: &mut Call, record: &[u8], room: &mut [u8]) -> Run {
     room.fill(0);
     let start = Instant::now();
     let answer = call(record, room);

@@ -71,7 +71,8 @@ mod tests {
     use super::*;
     use crate::adversarial::testing;
     use second::first_receivers::first_receivers;
-    use second::ground::{Cell, Ground};
+    use second::ground::Ground;
+    use second::manner::Manner;
     use second::neighbours::Neighbours;
     use second::network::network_by;
 
@@ -95,10 +96,8 @@ mod tests {
 
     /// The longest way along the network over 8 neighbours, in cells.
     fn longest_way(ground: &Ground) -> usize {
-        let receivers = network_by(Neighbours::Eight, ground).receivers;
-        let next = |&at: &Cell| Some(receivers[at.index()]).filter(|&to| to != at);
-        let cells = |start| std::iter::successors(Some(start), next).count();
-        ground.cells().map(cells).max().unwrap_or(0)
+        let network = network_by(Neighbours::Eight, Manner::Carve, ground);
+        testing::longest_way(&network.receivers)
     }
 
     #[test]

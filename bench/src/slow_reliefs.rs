@@ -5,7 +5,7 @@ use compare::reliefs::each_cell;
 use second::ground::{Size, HEIGHTS};
 
 /// Far above everything else on the tile, so that no water crosses it.
-const WALL: i32 = 1_000_000;
+pub const WALL: i32 = 1_000_000;
 
 /// Corridors as long as the tile, joined at one end each along a row: long ways, and many that meet.
 pub fn comb(chance: &mut Chance, size: Size) -> Vec<i32> {

@@ -7,6 +7,8 @@ use crate::ground::Cell;
 pub enum Refusal {
     /// 11: a count of neighbours other than 4 or 8.
     Neighbours,
+    /// 12: a manner other than 1 or 2.
+    Manner,
     /// 1: width or height is 0 or above 64.
     Size,
     /// 2: a list or a record has not the length it should have.
@@ -34,6 +36,7 @@ impl Refusal {
     pub fn number(self) -> u32 {
         match self {
             Refusal::Neighbours => 11,
+            Refusal::Manner => 12,
             Refusal::Size => 1,
             Refusal::Length => 2,
             Refusal::Distance => 7,

@@ -5,11 +5,17 @@ mod tiles;
 use second::first_receivers::first_receivers;
 use second::ground::{Cell, Ground};
 use second::lakes::lakes;
+use second::manner::Manner;
 use second::neighbours::Neighbours::{self, Eight, Four};
-use second::network::{network_by, Network};
+use second::network::{self, Network};
 use second::text::text;
 use second::{call, network_by_call, network_record, record};
 use tiles::tile;
+
+/// The carved network.
+fn network_by(neighbours: Neighbours, ground: &Ground) -> Network {
+    network::network_by(neighbours, Manner::Carve, ground)
+}
 
 fn first_receiver(neighbours: Neighbours, ground: &Ground, cell: usize) -> Option<u16> {
     first_receivers(neighbours, ground)[cell].map(|receiver| receiver.0)
@@ -195,7 +201,7 @@ fn the_call_writes_what_is_asked_for() {
     for (count, neighbours) in [(4, Four), (8, Eight)] {
         let mut wanted = network_record::bytes(&network_by(neighbours, &ground), ground.size);
         let mut room = vec![0xA5; wanted.len() + 3];
-        let answer = network_by_call(count, &bytes, &mut room);
+        let answer = network_by_call(count, 1, &bytes, &mut room);
         assert_eq!(answer as usize, wanted.len());
         wanted.extend([0xA5; 3]);
         assert_eq!(room, wanted);
@@ -209,7 +215,7 @@ fn what_is_not_asked_keeps_4() {
     let bytes = record::bytes(&ground);
     let (mut of_call, mut with_4) = ([0; 163], [0; 163]);
     assert_eq!(call(&bytes, &mut of_call), 163);
-    assert_eq!(network_by_call(4, &bytes, &mut with_4), 163);
+    assert_eq!(network_by_call(4, 1, &bytes, &mut with_4), 163);
     assert_eq!(of_call, with_4);
     assert!(text(&bytes).contains("\n4 1 9 "));
     let least: Vec<Cell> = lakes(&ground)

@@ -30,6 +30,26 @@ const WRONG_COUNTS: [u32; 20] = [
     u32::MAX,
 ];
 
+/// Manners that can't be asked for, of the same kinds.
+const WRONG_MANNERS: [u32; 16] = [
+    0,
+    3,
+    4,
+    5,
+    8,
+    256 + 1,
+    65_536,
+    65_537,
+    65_538,
+    131_073,
+    2 << 16,
+    (1 << 31) + 1,
+    (1 << 31) + 2,
+    u32::MAX - 2,
+    u32::MAX - 1,
+    u32::MAX,
+];
+
 /// A level tile with one outlet at its first cell.
 fn level_ground(width: usize, height: usize) -> Ground {
     let cells = width * height;
@@ -48,16 +68,27 @@ fn answer(bytes: &[u8]) -> u32 {
     answer_with_room(bytes, 61_468)
 }
 
-/// The answer of document 01's call, which is that of W-203's with 4 and with 8 neighbours.
-/// Says too that any other count is refused with 11, whatever else is wrong.
+/// The answer of document 01's call, which is that of the call of W-203 and W-205 with 4 and with 8
+/// neighbours, in either manner. Says too that any other manner is refused with 12 and any other count
+/// with 11, whatever else is wrong, and that 11 comes before 12.
 fn answer_with_room(bytes: &[u8], length: usize) -> u32 {
     let answer = answer_of(length, |room| call(bytes, room));
-    let with_count = |count| answer_of(length, |room| network_by_call(count, bytes, room));
+    let asked = |count, manner| {
+        let answer = answer_of(length, |room| network_by_call(count, manner, bytes, room));
+        (count, manner, answer)
+    };
     for count in [4, 8] {
-        assert_eq!(with_count(count), answer, "count {count}");
+        for manner in [1, 2] {
+            assert_eq!(asked(count, manner), (count, manner, answer));
+        }
+        for manner in WRONG_MANNERS {
+            assert_eq!(asked(count, manner), (count, manner, refused(12, 0)));
+        }
     }
     for count in WRONG_COUNTS {
-        assert_eq!(with_count(count), refused(11, 0), "count {count}");
+        for manner in [1, 2].into_iter().chain(WRONG_MANNERS) {
+            assert_eq!(asked(count, manner), (count, manner, refused(11, 0)));
+        }
     }
     answer
 }
@@ -84,8 +115,21 @@ fn only_4_and_8_neighbours_can_be_asked_for() {
             4 | 8 => 58,
             _ => refused(11, 0),
         };
-        let found = answer_of(58, |room| network_by_call(count, &whole, room));
+        let found = answer_of(58, |room| network_by_call(count, 1, &whole, room));
         assert_eq!(found, wanted, "count {count}");
+    }
+}
+
+#[test]
+fn only_manners_1_and_2_can_be_asked_for() {
+    let whole = record::bytes(&level_ground(2, 1));
+    for manner in 0..=9 {
+        let wanted = match manner {
+            1 | 2 => 58,
+            _ => refused(12, 0),
+        };
+        let found = answer_of(58, |room| network_by_call(4, manner, &whole, room));
+        assert_eq!(found, wanted, "manner {manner}");
     }
 }
 

@@ -1,41 +1,15 @@
-//! The rules read once more, as slowly as they are written, on small tiles full of ties, with 4 and with
-//! 8 neighbours. Where the second program takes a quicker way, it has to come to the same.
+//! Rules 1 to 5 read once more, as slowly as they are written, on small tiles full of ties, with 4 and
+//! with 8 neighbours. Where the second program takes a quicker way, it has to come to the same.
+
+mod small_tiles;
 
 use second::basins::{basins, Basins};
 use second::carving::{outflows, Outflow};
 use second::first_receivers::first_receivers;
 use second::ground::{Basin, Cell, Ground, Size};
 use second::neighbours::Neighbours;
-use second::network::{network, network_by, Network};
 use second::passes::{chosen_passes, crossings, passes, Crossing};
-
-/// Small tiles with few heights and a few outlets, always the same ones.
-fn small_tiles() -> Vec<Ground> {
-    let mut state = 1_u64;
-    let mut below = move |limit: u64| {
-        state = state
-            .wrapping_mul(6_364_136_223_846_793_005)
-            .wrapping_add(1_442_695_040_888_963_407);
-        (state >> 33) % limit
-    };
-    let mut tiles = Vec::new();
-    for _ in 0..2_000 {
-        let (width, height) = (1 + below(5) as usize, 1 + below(5) as usize);
-        let cells = width * height;
-        let heights = 1 + below(5);
-        let mut marks = vec![0; cells];
-        for _ in 0..1 + below(3) {
-            marks[below(cells as u64) as usize] = 1;
-        }
-        tiles.push(Ground {
-            size: Size { width, height },
-            heights: (0..cells).map(|_| below(heights) as i32).collect(),
-            marks,
-            water: (0..cells).map(|_| below(100) as u16).collect(),
-        });
-    }
-    tiles
-}
+use small_tiles::small_tiles;
 
 /// Each of these tiles with 4 neighbours, then with 8.
 fn asked() -> impl Iterator<Item = (Neighbours, Ground)> {
@@ -221,133 +195,4 @@ fn an_outflow_is_the_first_pass_on_the_only_way_out() {
             assert!(!left.iter().any(leads_out));
         }
     }
-}
-
-/// A cell and all that lies above it, as rule 8 says it.
-fn above(cell: Cell, network: &Network) -> Vec<Cell> {
-    let mut order = vec![cell];
-    for (giver, &receiver) in network.receivers.iter().enumerate() {
-        if receiver == cell && Cell::at(giver) != cell {
-            order.extend(above(Cell::at(giver), network));
-        }
-    }
-    order
-}
-
-#[test]
-fn the_order_is_that_of_rule_8() {
-    for (neighbours, ground) in asked() {
-        let network = network_by(neighbours, &ground);
-        let outlets = ground.cells().filter(|&cell| ground.is_outlet(cell));
-        let wanted: Vec<Cell> = outlets.flat_map(|outlet| above(outlet, &network)).collect();
-        assert_eq!(network.order, wanted);
-    }
-}
-
-#[test]
-fn a_level_is_the_greatest_height_on_the_way() {
-    for (neighbours, ground) in asked() {
-        let network = network_by(neighbours, &ground);
-        for start in ground.cells() {
-            let (mut cell, mut greatest) = (start, ground.height(start));
-            while !ground.is_outlet(cell) {
-                cell = network.receivers[cell.index()];
-                greatest = greatest.max(ground.height(cell));
-            }
-            assert_eq!(network.levels[start.index()], greatest);
-        }
-    }
-}
-
-/// Whoever may go over corners too has all the ways that there are without them.
-#[test]
-fn no_level_with_8_neighbours_is_above_that_with_4() {
-    let mut lower = 0;
-    for ground in small_tiles() {
-        let [four, eight] = Neighbours::BOTH.map(|asked| network_by(asked, &ground).levels);
-        for (with_4, with_8) in four.iter().zip(&eight) {
-            assert!(with_8 <= with_4);
-            lower += u32::from(with_8 < with_4);
-        }
-    }
-    assert!(lower > 500, "{lower}");
-}
-
-#[test]
-fn drainage_is_the_water_of_all_that_lies_above() {
-    for (neighbours, ground) in asked() {
-        let network = network_by(neighbours, &ground);
-        for cell in ground.cells() {
-            let water = |above: &Cell| u32::from(ground.water[above.index()]);
-            let wanted: u32 = above(cell, &network).iter().map(water).sum();
-            assert_eq!(network.drainage[cell.index()], wanted);
-        }
-    }
-}
-
-/// The cells that are no higher than a cell and joined to it through such cells.
-fn no_higher(neighbours: Neighbours, start: Cell, ground: &Ground) -> Vec<Cell> {
-    let mut found = vec![start];
-    let mut next = 0;
-    while next < found.len() {
-        for cell in neighbours.of(found[next], ground.size) {
-            if ground.height(cell) <= ground.height(start) && !found.contains(&cell) {
-                found.push(cell);
-            }
-        }
-        next += 1;
-    }
-    found
-}
-
-#[test]
-fn wet_is_where_every_way_out_climbs() {
-    for (neighbours, ground) in asked() {
-        let network = network_by(neighbours, &ground);
-        for cell in ground.cells() {
-            let dry = no_higher(neighbours, cell, &ground)
-                .iter()
-                .any(|&other| ground.is_outlet(other));
-            assert_eq!(network.wet[cell.index()], u8::from(!dry));
-        }
-    }
-}
-
-#[test]
-fn wet_neighbours_have_one_level() {
-    for (neighbours, ground) in asked() {
-        let network = network_by(neighbours, &ground);
-        let wet = |cell: &Cell| network.wet[cell.index()] == 1;
-        for cell in ground.cells().filter(wet) {
-            for neighbour in neighbours.of(cell, ground.size).filter(wet) {
-                assert_eq!(
-                    network.levels[cell.index()],
-                    network.levels[neighbour.index()]
-                );
-            }
-        }
-    }
-}
-
-/// Document 01's rule 10 called five more cells wet, of which 6 and 7 are neighbours with two levels.
-/// They are level with their receivers, and no water stands on them.
-#[test]
-fn a_meadow_is_not_a_lake() {
-    let ground = Ground {
-        size: Size {
-            width: 4,
-            height: 3,
-        },
-        heights: vec![3, 2, 3, 2, 1, 2, 2, 3, 3, 2, 2, 3],
-        marks: vec![1, 0, 0, 0, 1, 0, 0, 0, 0, 0, 0, 0],
-        water: vec![1; 12],
-    };
-    let network = network(&ground);
-    assert_eq!(network.wet, [0, 0, 0, 1, 0, 0, 0, 0, 0, 0, 0, 0]);
-    for cell in [1, 6, 7, 9, 10] {
-        let receiver = network.receivers[cell].index();
-        assert_eq!(network.levels[cell], network.levels[receiver]);
-        assert_eq!(network.levels[cell], ground.heights[cell]);
-    }
-    assert_ne!(network.levels[6], network.levels[7]);
 }

@@ -7,7 +7,15 @@ use second::{lakes_call, network_by_call};
 type Call = fn(&Vector, &mut [u8]) -> u32;
 
 const LAKES: Call = |example, room| lakes_call(&example.input, room);
-const NETWORK_BY: Call = |example, room| network_by_call(example.neighbours, &example.input, room);
+const NETWORK_BY: Call = |example, room| {
+    let Vector {
+        neighbours,
+        manner,
+        ref input,
+        ..
+    } = *example;
+    network_by_call(neighbours, manner, input, room)
+};
 
 /// Runs so many examples of a call.
 fn all_hold(text: &str, lines: usize, call: Call) {
@@ -24,10 +32,24 @@ fn every_example_of_lakes_holds() {
 }
 
 #[test]
-fn every_example_of_networks_by_count_holds() {
+fn every_example_of_networks_by_count_and_manner_holds() {
     let text = include_str!("../../tests/vectors/network_by.txt");
-    all_hold(text, 117, NETWORK_BY);
-    assert!(read_all(text).iter().all(|example| example.manner == 1));
+    all_hold(text, 240, NETWORK_BY);
+}
+
+/// Both counts and both manners are accepted and refused, and 11 and 12 come beside each other.
+#[test]
+fn examples_of_networks_are_of_every_kind() {
+    let all = read_all(include_str!("../../tests/vectors/network_by.txt"));
+    let times = |is: fn(&Vector) -> bool| all.iter().filter(|example| is(example)).count();
+    for (neighbours, manner) in [(4, 1), (4, 2), (8, 1), (8, 2)] {
+        let of_kind = all.iter().filter(|example| {
+            (example.neighbours, example.manner) == (neighbours, manner) && example.answer < 65_536
+        });
+        assert!(of_kind.count() > 20, "{neighbours} {manner}");
+    }
+    assert!(times(|example| example.answer == 11 * 65_536) > 10);
+    assert!(times(|example| example.answer == 12 * 65_536) > 5);
 }
 
 /// Sample F: one lake of one cell, level 4, seven deep.

@@ -13,7 +13,7 @@
 using Bytes = std::vector<std::uint8_t>;
 
 struct Example {
-  std::uint32_t neighbours = 0, answer = 0;
+  std::uint32_t neighbours = 0, manner = 0, answer = 0;
   std::size_t room = 0;
   Bytes ground, network;
 };
@@ -30,8 +30,9 @@ static Bytes bytes_of(const std::string &word) {
 // False for a line that has another form.
 static bool read(const std::string &line, Example &example) {
   std::istringstream words(line);
-  std::string manner, cell, height, input, season, output;
-  if (!(words >> example.neighbours >> manner >> cell >> height >> example.room >> example.answer >> input >> season >> output)) return false;
+  std::string cell, height, input, season, output;
+  words >> example.neighbours >> example.manner >> cell >> height >> example.room >> example.answer >> input >> season >> output;
+  if (!words) return false;
   example.ground = bytes_of(input);
   example.network = bytes_of(output);
   return example.network.size() == askvimur_length(example.answer) && example.network.size() <= example.room;
@@ -42,7 +43,7 @@ static bool holds(const Example &example) {
   Bytes wanted = lent;
   std::ranges::copy(example.network, wanted.begin());
   Bytes ground = example.ground, room = lent;
-  const auto answer = askvimur::network_by(example.neighbours, ground, room);
+  const auto answer = askvimur::network_by(example.neighbours, example.manner, ground, room);
   if (answer.number() != askvimur_number(example.answer) || answer.place() != askvimur_place(example.answer)) return false;
   if (answer.length() != example.network.size() || ground != example.ground || room != wanted) return false;
   // for C both have an address, even where they are empty
@@ -50,8 +51,9 @@ static bool holds(const Example &example) {
   room = lent;
   room.push_back(0xA5);
   wanted.push_back(0xA5);
-  return askvimur_network_by(example.neighbours, ground.data(), example.ground.size(), room.data(), example.room) == example.answer &&
-         room == wanted;
+  const auto number =
+      askvimur_network_by(example.neighbours, example.manner, ground.data(), example.ground.size(), room.data(), example.room);
+  return number == example.answer && room == wanted;
 }
 
 int main(int count, char **words) {

@@ -1,7 +1,7 @@
 // The stack that a C call takes, on every tile of the standard input, which bench's program `tiles` writes.
 // Prints the greatest figure of each family and of all; the exit status is 1 if it is above the bound.
 // With --self-check the measure itself is tried, on functions that take a known number of bytes.
-// usage: call network|network_by_8|network_by_4|lakes BOUND, or call --self-check BOUND (in bytes)
+// usage: call network|carve_8|carve_4|sheet_8|sheet_4|lakes BOUND, or call --self-check BOUND (in bytes)
 #include <algorithm>
 #include <cstdint>
 #include <cstdio>
@@ -36,10 +36,10 @@ bool read(std::istream& in, Tile& tile) {
     return true;
 }
 
-// The call that is told the neighbours.
-template <std::uint32_t neighbours>
+// The call that is told the neighbours and the manner.
+template <std::uint32_t neighbours, std::uint32_t manner>
 std::uint32_t network_by(const std::uint8_t* ground, std::size_t ground_len, std::uint8_t* room, std::size_t room_len) {
-    return askvimur_network_by(neighbours, ground, ground_len, room, room_len);
+    return askvimur_network_by(neighbours, manner, ground, ground_len, room, room_len);
 }
 
 // One of the calls.
@@ -51,8 +51,10 @@ struct Call {
 
 constexpr std::uint32_t too_deep = 10;
 const Call calls[] = {{"network", askvimur_network, 0},
-                      {"network_by_8", network_by<8>, 0},
-                      {"network_by_4", network_by<4>, 0},
+                      {"carve_8", network_by<8, ASKVIMUR_CARVE>, 0},
+                      {"carve_4", network_by<4, ASKVIMUR_CARVE>, 0},
+                      {"sheet_8", network_by<8, ASKVIMUR_SHEET>, 0},
+                      {"sheet_4", network_by<4, ASKVIMUR_SHEET>, 0},
                       {"lakes", askvimur_lakes, too_deep}};
 
 std::size_t bytes_of_call(const Call& call, const Tile& tile) {
@@ -110,7 +112,8 @@ int main(int count, char** words) {
     const std::size_t bound = count == 3 ? std::strtoul(words[2], nullptr, 10) : 0;
     if (what == "--self-check") return seen_as_it_is<100 * 1024>(bound, false) && seen_as_it_is<200 * 1024>(bound, true) ? 0 : 1;
     const auto call = std::ranges::find(calls, what, &Call::name);
-    if (call == std::end(calls) || bound == 0) painted::give_up("usage: call network|network_by_8|network_by_4|lakes|--self-check BOUND");
+    if (call == std::end(calls) || bound == 0)
+        painted::give_up("usage: call network|carve_8|carve_4|sheet_8|sheet_4|lakes|--self-check BOUND");
     const Greatest greatest = measure(*call, std::cin);
     std::printf("the call takes at most %zu bytes (%.1f KB) of stack, on %s; the bound is %zu\n", greatest.bytes,
                 static_cast<double>(greatest.bytes) / 1024, greatest.tile.c_str(), bound);

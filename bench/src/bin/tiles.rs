@@ -4,7 +4,7 @@
 use std::io::{self, BufWriter, Write};
 
 use bench::tiles::{tile, Tile};
-use bench::{adversarial, slow_diagonals, slow_lakes, tiles};
+use bench::{adversarial, slow_diagonals, slow_lakes, slow_sheets, tiles};
 
 /// So many tiles of the mix: six of the rarest families each.
 const OF_THE_MIX: u64 = 60;
@@ -24,6 +24,7 @@ fn main() -> io::Result<()> {
         &adversarial::FAMILIES[..],
         &slow_lakes::FAMILIES,
         &slow_diagonals::FAMILIES,
+        &slow_sheets::FAMILIES,
     ] {
         for (number, tile) in adversarial::tiles_of(families).iter().enumerate() {
             let of_family = number % adversarial::TILES_OF_EACH;

@@ -20,5 +20,5 @@ pub askvimur-lakes-one : OneOutcome 2 askvimur-lakes-kinds.ps askvimur-lakes-kin
     (λ κs a r e. e .1 .0 .now)
 askvimur-lakes-one κs a p r r′ e e′ x y = one-outcome x y
 
-pub askvimur-network-by-one : OneOutcome 2 network-by-kinds.ps network-by-kinds.r network-by.Asked network-by.Learnt (λ κs a r e. e .1 .1 .0 .now)
+pub askvimur-network-by-one : OneOutcome 2 network-by-kinds.ps network-by-kinds.r network-by.Asked network-by.Learnt (λ κs a r e. e .1 .1 .1 .0 .now)
 askvimur-network-by-one κs a p r r′ e e′ x y = one-outcome x y

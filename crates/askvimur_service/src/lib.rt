@@ -1,5 +1,5 @@
 // The calls of the service and of designers' tools, for C (include/askvimur_service.h): the lakes of a ground record (W-202), and its network
-// over 4 or 8 neighbours (W-203).
+// over 4 or 8 neighbours (W-203), carved or as a sheet (W-205).
 ghost use mathlib.Core.List.{List};
 ghost use mathlib.Core.Path.{_≡_};
 ghost use Prim.Native.Nat.{ℕ, _*_, _+_};
@@ -95,12 +95,17 @@ pub extern "C" fn askvimur_lakes(ground: &[u8], lakes: &mut [u8]) -> u32
     answer_for_c(lakes_of_record(ground, lakes))
 }
 
-// The network record of a ground record over the neighbours asked for, at the start of a lent room. The answer is the length written, 43 to
-// 61,468, or for a refusal its number times 65,536 plus its place; 11, a count other than 4 or 8, comes before all others. A refusal alters
-// nothing, and bytes past the record stay.
+// The network record of a ground record over the neighbours and in the manner asked for, at the start of a lent room. The answer is the
+// length written, 43 to 61,468, or for a refusal its number times 65,536 plus its place; 11, a count other than 4 or 8, comes before all
+// others, and next 12, a manner other than 1 (carve) or 2 (sheet). A refusal alters nothing, and bytes past the record stay.
 #[no_mangle]
-pub extern "C" fn askvimur_network_by(neighbours: u32, ground: &[u8], network: &mut [u8]) -> u32
-    ensures { λ r. ⌜ RecordCountedFromC neighbours (now (ground .entry)) (now (network .entry)) r (now (network .exit)) ⌝ }
+pub extern "C" fn askvimur_network_by(
+    neighbours: u32,
+    manner: u32,
+    ground: &[u8],
+    network: &mut [u8],
+) -> u32
+    ensures { λ r. ⌜ RecordCountedFromC neighbours manner (now (ground .entry)) (now (network .entry)) r (now (network .exit)) ⌝ }
 {
-    network_by::answer_for_c(network_of_record(neighbours, ground, network))
+    network_by::answer_for_c(network_of_record(neighbours, manner, ground, network))
 }

@@ -10,10 +10,11 @@ use Rattle.ground.specs.Good.{Good}
 use Rattle.network.proofs.Networks.{levels-droppable, network-full}
 use Rattle.rules.proofs.SixLists.{take-holds}
 use Rattle.rules.specs.Ground.{cellsOf, dropped, Ground}
-use Rattle.rules.specs.Network.{liftedNetworkOf, networkBy, networkOf}
+use Rattle.rules.specs.Network.{liftedNetworkOf, networkBy}
 use Rattle.text.specs.Text.{groundText, tileText}
 use Rattle.text.specs.Writing.{mostText, Printable}
 use Rattle.grid.specs.declared.Neighbours.the-variants.{Four}
+use Rattle.rules.specs.declared.Manner.the-variants.{Carve}
 
 -- the first entries of a list, and that it has as many
 record First (n : ℕ) (l first : List ℕ) : Type 0 where
@@ -30,13 +31,13 @@ module _ (g : Ground) (G : Good g) (n : ℕ) (z : n ≡ cellsOf g) (r l d marks 
     (er : take (cellsOf g) r ≡ liftedNetworkOf g .receivers) (el : take (cellsOf g) l ≡ liftedNetworkOf g .levels)
     (ed : take (cellsOf g) d ≡ liftedNetworkOf g .drainage) (em : marks ≡ g .marks) (ew : take n water ≡ g .water) where
   receivers : First n r (liftedNetworkOf g .receivers)
-  receivers = first n (cellsOf g) r z er (network-full Four g G .receivers-full)
+  receivers = first n (cellsOf g) r z er (network-full Four Carve g G .receivers-full)
 
   levels : First n l (liftedNetworkOf g .levels)
-  levels = first n (cellsOf g) l z el (network-full Four g G .levels-full)
+  levels = first n (cellsOf g) l z el (network-full Four Carve g G .levels-full)
 
   drainage : First n d (liftedNetworkOf g .drainage)
-  drainage = first n (cellsOf g) d z ed (network-full Four g G .drainage-full)
+  drainage = first n (cellsOf g) d z ed (network-full Four Carve g G .drainage-full)
 
   outlets : First n marks (g .marks)
   outlets = let f = ap length em ∙ G .marks-full in first n n marks refl (take-all n marks (omega arith) ∙ em) (G .marks-full ∙ sym z)
@@ -55,10 +56,10 @@ module _ (g : Ground) (G : Good g) (n : ℕ) (z : n ≡ cellsOf g) (r l d marks 
         drainage-holds = drainage .holds;
         marks-hold = outlets .holds;
         water-holds = rain .holds;
-        levels-lifted = levels-droppable Four g G (levels .taken);
+        levels-lifted = levels-droppable Four Carve g G (levels .taken);
         room = room;
       }
 
   pub text-is : tileText (g .width) (g .height) (take n r) (map dropped (take n l)) (take n d) (take n marks) (take n water) ≡ groundText g
-  unfolding groundText networkBy networkOf
+  unfolding groundText networkBy
   text-is = rw (receivers .taken, levels .taken, drainage .taken, outlets .taken, rain .taken)

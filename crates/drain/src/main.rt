@@ -15,6 +15,7 @@ use grid::Neighbours;
 use ground::Judged;
 use record_stages::link_record;
 use record_stages::walk_record;
+use rules::Manner;
 
 // The text of the ground in a record, from the lists that its network stands at the start of. Work space: 8 KB.
 fn print_lists(
@@ -59,11 +60,12 @@ fn print_linked(
     width: u16,
     height: u16,
     lifted: &[u32],
-    links: &[u8],
+    links: &mut [u8],
     text: &mut [u8],
 ) -> usize
     requires { ⌜ Readable (now bytes) width height ⌝ }
-    requires { ⌜ LinkedRecord Four (now bytes) width height (now lifted) (now links) × (mostText ≤ length (now text)) ⌝ }
+    requires { ⌜ LinkedRecord Four (now bytes) width height (now lifted) (now links) × (length (now links) ≡ 4226) ⌝ }
+    requires { ⌜ mostText ≤ length (now text) ⌝ }
     ensures { λ r. ⌜ Printed (groundText (groundIn (now (bytes .entry)) width height)) (now (text .entry)) (now (text .exit)) r ⌝ }
 {
     let mut receivers = [0u16; 4096];
@@ -73,6 +75,7 @@ fn print_linked(
     let mut wet = [0u8; 4096];
     walk_record(
         Neighbours::Four,
+        Manner::Carve,
         bytes,
         width,
         height,
@@ -105,7 +108,7 @@ fn print_tile(bytes: &[u8], width: u16, height: u16, text: &mut [u8]) -> usize
         &mut basins,
         &mut links,
     );
-    print_linked(bytes, width, height, &lifted, &links, text)
+    print_linked(bytes, width, height, &lifted, &mut links, text)
 }
 
 // The text for an input, and how many bytes it takes.

@@ -1,6 +1,7 @@
 pub mod Taken
 pub mod Winners
 pub mod LeastKeys
+pub mod OneKind
 pub mod Keys
 pub mod Weighing
 pub mod Selects

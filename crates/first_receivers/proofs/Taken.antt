@@ -25,10 +25,10 @@ module _ {w n c : ℕ} (G : Rows w n) (on : c < n) where
   x = taken c (cellOr w n c 1) (cellOr w n c 3) (cellOr w n c 5) (cellOr w n c 7)
 
   -- a side is the cell there, or c
-  or-cell : (p d : ℕ) → Stands w n c p d → cellOr w n c p ≡ d
+  pub or-cell : (p d : ℕ) → Stands w n c p d → cellOr w n c p ≡ d
   or-cell p d S = rw (stands-on S G) (stands-cell S)
 
-  or-side : (p : ℕ) → p < 9 → (cellOr w n c p ≡ c) ⊎ Stands w n c p (cellOr w n c p)
+  pub or-side : (p : ℕ) → p < 9 → (cellOr w n c p ≡ c) ⊎ Stands w n c p (cellOr w n c p)
   or-side p h = go (known (onTile w n c p))
     where
       go : Known (onTile w n c p) → (cellOr w n c p ≡ c) ⊎ Stands w n c p (cellOr w n c p)

@@ -22,7 +22,7 @@ use Rattle.rules.specs.Tile.{Tile, tileLand}
 use Rattle.grid.specs.declared.Neighbours.{Neighbours}
 
 -- the weight that leads to a cell is the mask of it alone
-placed-mask : (N : Neighbours) (w n c : ℕ) → Rows w n → (f : ℕ → ℕ) (k : ℕ) → Placed N w n c (f c) k → maskOf around w n (leads f) c ≡ k
+pub placed-mask : (N : Neighbours) (w n c : ℕ) → Rows w n → (f : ℕ → ℕ) (k : ℕ) → Placed N w n c (f c) k → maskOf around w n (leads f) c ≡ k
 placed-mask N w n c G f k (itself e q) = leads-itself G around-rule c f e ∙ sym q
 placed-mask N w n c G f k (beside {p = p} m S q) = leads-place G around-rule c f p (places-around (rule-by N) p m) S ∙ sym q
 
@@ -40,7 +40,7 @@ module _ (N : Neighbours) (w : ℕ) (heights marks : List ℕ) (T : Tile w heigh
     where
       go : Known (isOutlet marks c) → Placed N w n c (firstReceiver L c) (weight N w heights marks c)
       go (is t) = rw t (itself (first-outlet L c t) refl)
-      go (isnt t) = rw t (steepest-placed w heights marks T c on _ (tile-taking (T .grid .rows) on) N t)
+      go (isnt t) = rw t (steepest-placed w heights marks T c _ (tile-taking (T .grid .rows) on) N t)
 
   pub weight-mask : (c : ℕ) → c < n → weight N w heights marks c ≡ maskOf around w n (firstIs L) c
   weight-mask c on = sym (placed-mask N w n c (T .grid .rows) (firstReceiver L) (weight N w heights marks c) (weight-placed c on))

@@ -19,7 +19,7 @@ use Rattle.rules.specs.Chain.{back, Chain, forth, here}
 use Rattle.rules.specs.Demand3.{Sound}
 use Rattle.rules.specs.Ground.{Drainable, Ground}
 use Rattle.rules.specs.Land.{Land, land4}
-use Rattle.rules.specs.Network.{level, liftedNetwork, liftedNetworkOf}
+use Rattle.rules.specs.Network.{level, liftedNetworkIn, liftedNetworkOf}
 use Rattle.rules.specs.Way.{Lawful}
 use Rattle.grid.specs.declared.Neighbours.the-variants.{Four}
 
@@ -85,5 +85,5 @@ module _ (L : Land) where
 
 -- the levels of a ground's network keep the local law
 pub ground-levels-local : (g : Ground) → Drainable g → Local (land4 g) (liftedNetworkOf g .levels)
-unfolding liftedNetwork
+unfolding liftedNetworkIn
 ground-levels-local g o = levels-local (land4 g) (ground-lawful Four g o)

@@ -22,10 +22,11 @@ use Rattle.rules.specs.Land.{land4}
 use Rattle.rules.specs.Network.{liftedNetworkOf}
 use Rattle.grid.specs.declared.Neighbours.the-variants.{Four}
 use Rattle.lake_list.specs.declared.Found.{Found}
+use Rattle.rules.specs.declared.Manner.the-variants.{Carve}
 
 module _ (g : Ground) (G : Good g) where
   levels-low : (c : ℕ) → c < cellsOf g → at (liftedNetworkOf g .levels) c ≤ highest
-  levels-low c h = levels-droppable Four g G refl c (let e = network-full Four g G .levels-full in omega arith)
+  levels-low c h = levels-droppable Four Carve g G refl c (let e = network-full Four Carve g G .levels-full in omega arith)
 
   -- a tile has no more lakes than cells
   pub lakes-on-few : length (lakesOn g) ≤ cellsOf g

@@ -19,8 +19,7 @@ use Rattle.rules.proofs.Draining.{receivers-drain}
 use Rattle.rules.specs.Carving.{receivers}
 use Rattle.rules.specs.Land.{Land, rule4}
 use Rattle.rules.specs.Network.{level}
-use Rattle.rules.specs.Tile.{tileLand}
-use Rattle.stages.specs.Linking.{LawfulTile}
+use Rattle.rules.specs.Tile.{LawfulTile, tileLand}
 
 module _ (w : ℕ) (heights marks : List ℕ) (T : LawfulTile rule4 w heights marks) where
   abbrev L : Land

@@ -13,8 +13,9 @@ use Rattle.rules.specs.Network.{Network, networkBy}
 use Rattle.rules.specs.SixLists.{firstOf, Full}
 use Rattle.grid.specs.declared.Neighbours.{Neighbours}
 use Rattle.ground.specs.declared.Judged.the-variants.{Accepted}
+use Rattle.rules.specs.declared.Manner.{Manner}
 
-module _ (N : Neighbours) (g : Ground) (before : Network ℤ) {w h : ℕ} {after : Network ℤ} (o : OutcomeBy N g before (Accepted w h) after) where
+module _ (N : Neighbours) (M : Manner) (g : Ground) (before : Network ℤ) {w h : ℕ} {after : Network ℤ} (o : OutcomeBy N M g before (Accepted w h) after) where
   -- the ground is good, and the answer gives its size
   pub call-accepted : AcceptedLists (networkHolds before) g w h
   call-accepted = lists-accepted (networkHolds before) g (sym (o .answer))
@@ -23,9 +24,9 @@ module _ (N : Neighbours) (g : Ground) (before : Network ℤ) {w h : ℕ} {after
   call-cells = rw (call-accepted .width-is, call-accepted .height-is)
 
   -- its network has an entry for each cell
-  pub call-full : Full (cellsOf g) (networkBy N g)
-  call-full = good-full N g (call-accepted .good)
+  pub call-full : Full (cellsOf g) (networkBy N M g)
+  call-full = good-full N M g (call-accepted .good)
 
   -- the first N entries of the lists are the network
-  pub call-network : firstOf (cellsOf g) after ≡ networkBy N g
-  call-network = firstOf-onto (cellsOf g) (networkBy N g) before call-full (o .lists)
+  pub call-network : firstOf (cellsOf g) after ≡ networkBy N M g
+  call-network = firstOf-onto (cellsOf g) (networkBy N M g) before call-full (o .lists)

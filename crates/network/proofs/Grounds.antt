@@ -20,7 +20,7 @@ use Rattle.lists.specs.Lists.{at, overwrite}
 use Rattle.rules.proofs.TileLawful.{tile-by-lawful}
 use Rattle.rules.specs.Ground.{cellsOf, Drainable, Ground, lifted}
 use Rattle.rules.specs.Land.{ruleBy}
-use Rattle.stages.specs.Linking.{LawfulTile}
+use Rattle.rules.specs.Tile.{LawfulTile}
 use Rattle.grid.specs.declared.Neighbours.{Neighbours}
 
 module _ (g : Ground) (G : Good g) where

@@ -15,14 +15,15 @@ use Rattle.rules.specs.LeftTrace.{LeftTraced}
 use Rattle.rules.specs.Network.{Network}
 use Rattle.grid.specs.declared.Neighbours.{Neighbours}
 use Rattle.ground.specs.declared.Judged.the-variants.{Accepted}
+use Rattle.rules.specs.declared.Manner.{Manner}
 
 -- any outcome of a tile that is accepted
-module _ (N : Neighbours) (g : Ground) (before : Network ℤ) {w h : ℕ} {after : Network ℤ} (o : OutcomeBy N g before (Accepted w h) after) where
+module _ (N : Neighbours) (M : Manner) (g : Ground) (before : Network ℤ) {w h : ℕ} {after : Network ℤ} (o : OutcomeBy N M g before (Accepted w h) after) where
   good : Good g
-  good = call-accepted N g before o .good
+  good = call-accepted N M g before o .good
 
   pub call-demand-3 : LeftDemand3 N g after
-  call-demand-3 = left-demand-3 N g (good-drainable g good) after (call-network N g before o)
+  call-demand-3 = left-demand-3 N M g (good-drainable g good) after (call-network N M g before o)
 
   -- and a trace along the receivers reaches the outlet
   pub call-traced : LeftTraced N g after

@@ -17,20 +17,21 @@ use Rattle.lists.proofs.Map.{map-at}
 use Rattle.lists.proofs.Tab.{tab-at}
 use Rattle.lists.specs.Lists.{at}
 use Rattle.network.proofs.AcceptedCalls.{call-accepted, call-network}
-use Rattle.network.proofs.Grounds.{lifted-low}
+use Rattle.network.proofs.Grounds.{good-drainable, lifted-low}
 use Rattle.network.proofs.Networks.{drains}
 use Rattle.network.specs.Call.{OutcomeBy}
 use Rattle.rules.proofs.Bounds.{level-most}
+use Rattle.rules.proofs.NetworkDrains.{network-of}
 use Rattle.rules.proofs.SixLists.{networkOf-level}
-use Rattle.rules.specs.Carving.{receivers}
 use Rattle.rules.specs.Ground.{cellsOf, dropped, Ground, lifted}
 use Rattle.rules.specs.Land.{Land, landBy, landOf, Rule, ruleBy}
 use Rattle.rules.specs.LeftWet.{LeftWet}
-use Rattle.rules.specs.Network.{level, liftedNetwork, Network, networkBy, networkOf, wet}
+use Rattle.rules.specs.Network.{level, liftedNetwork, Network, networkBy, networkOf, receiversBy, wet}
 use Rattle.rules.specs.SixLists.{firstOf}
 use Rattle.rules.specs.Way.{Drains}
 use Rattle.grid.specs.declared.Neighbours.{Neighbours}
 use Rattle.ground.specs.declared.Judged.the-variants.{Accepted}
+use Rattle.rules.specs.declared.Manner.{Manner}
 
 module _ (R : Rule) (g : Ground) (G : Good g) (r : List ℕ) (D : Drains (landOf R g) r)
     (whole : (c : ℕ) → c < cellsOf g → landOf R g .solid c ≡ true) where
@@ -58,11 +59,12 @@ module _ (R : Rule) (g : Ground) (G : Good g) (r : List ℕ) (D : Drains (landOf
       ∙ ap (λ (v : ℤ). cond (ltZ z v) 1 0)
       (ap (λ (t : Network ℤ). getD (t .levels) c (pos 0)) (sym e) ∙ getD-take (cellsOf g) (s .levels) c (pos 0) h)
 
--- over the neighbours asked for, carved
-pub good-wet : (N : Neighbours) (g : Ground) → Good g → (s : Network ℤ) → firstOf (cellsOf g) s ≡ networkBy N g → LeftWet g s
-unfolding networkBy
-good-wet N g G = left-wet (ruleBy N) g G (receivers (landBy N g)) (drains N g G) (λ c h. refl)
+-- over the neighbours and in the manner asked for
+pub good-wet : (N : Neighbours) (M : Manner) (g : Ground) → Good g → (s : Network ℤ) → firstOf (cellsOf g) s ≡ networkBy N M g → LeftWet g s
+good-wet N M g G s e =
+    left-wet (ruleBy N) g G (receiversBy M (landBy N g)) (drains N M g G) (λ c h. refl) s (e ∙ network-of N M g (good-drainable g G))
 
 -- any outcome of a tile that is accepted
-pub call-wet : (N : Neighbours) (g : Ground) (before : Network ℤ) {w h : ℕ} {after : Network ℤ} → OutcomeBy N g before (Accepted w h) after → LeftWet g after
-call-wet N g before {after = after} o = good-wet N g (call-accepted N g before o .good) after (call-network N g before o)
+pub call-wet : (N : Neighbours) (M : Manner) (g : Ground) (before : Network ℤ) {w h : ℕ} {after : Network ℤ}
+    → OutcomeBy N M g before (Accepted w h) after → LeftWet g after
+call-wet N M g before {after = after} o = good-wet N M g (call-accepted N M g before o .good) after (call-network N M g before o)

@@ -22,6 +22,6 @@ pub network-one : OneOutcome 9 network-kinds.ps network-kinds.r network.Asked ne
 network-one κs a p r r′ e e′ x y = one-outcome x y
 
 pub network-over-one : OneOutcome 9 network-over-kinds.ps network-over-kinds.r network-over.Asked network-over.Learnt
-    (λ κs a r e. sixLists (e .1 .1 .1 .1 .1 .1 .0 .now) (e .1 .1 .1 .1 .1 .1 .1 .0 .now) (e .1 .1 .1 .1 .1 .1 .1 .1 .0 .now)
-    (e .1 .1 .1 .1 .1 .1 .1 .1 .1 .0 .now) (e .1 .1 .1 .1 .1 .1 .1 .1 .1 .1 .0 .now) (e .1 .1 .1 .1 .1 .1 .1 .1 .1 .1 .1 .0 .now))
+    (λ κs a r e. sixLists (e .1 .1 .1 .1 .1 .1 .1 .0 .now) (e .1 .1 .1 .1 .1 .1 .1 .1 .0 .now) (e .1 .1 .1 .1 .1 .1 .1 .1 .1 .0 .now)
+    (e .1 .1 .1 .1 .1 .1 .1 .1 .1 .1 .0 .now) (e .1 .1 .1 .1 .1 .1 .1 .1 .1 .1 .1 .0 .now) (e .1 .1 .1 .1 .1 .1 .1 .1 .1 .1 .1 .1 .0 .now))
 network-over-one κs a p r r′ e e′ x y = one-outcome x y

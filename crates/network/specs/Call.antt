@@ -13,6 +13,8 @@ use Rattle.grid.specs.declared.Neighbours.{Neighbours}
 use Rattle.grid.specs.declared.Neighbours.the-variants.{Four}
 use Rattle.ground.specs.declared.Judged.{Judged}
 use Rattle.ground.specs.declared.Judged.the-variants.{Accepted, Refused}
+use Rattle.rules.specs.declared.Manner.{Manner}
+use Rattle.rules.specs.declared.Manner.the-variants.{Carve}
 
 -- after the call: the network where the tile is accepted, and all as it was where it is refused
 abbrev pub left : Judged → (net before : Network ℤ) → Network ℤ
@@ -27,11 +29,11 @@ networkHolds before = roomFor 1 0 (shortest before)
 abbrev pub Draws : (said : Judged) (net before : Network ℤ) (r : Judged) (after : Network ℤ) → Type 0
 Draws said net before = Allowed said (λ r. left r net before)
 
--- the outcome of a call on a ground, over the neighbours asked for: the answer is the judgement of its lists; where it accepts, its network
+-- the outcome of a call on a ground, over the neighbours and in the manner asked for: the answer is the judgement of its lists; where it accepts, its network
 -- stands at the start of the six lent lists, and where it refuses they are as they were
-abbrev pub OutcomeBy : Neighbours → (g : Ground) (before : Network ℤ) (r : Judged) (after : Network ℤ) → Type 0
-OutcomeBy N g before = Draws (judgeLists (networkHolds before) g) (networkBy N g) before
+abbrev pub OutcomeBy : Neighbours → Manner → (g : Ground) (before : Network ℤ) (r : Judged) (after : Network ℤ) → Type 0
+OutcomeBy N M g before = Draws (judgeLists (networkHolds before) g) (networkBy N M g) before
 
--- document 01's call
+-- document 01's call: 4 neighbours, carved
 abbrev pub Outcome : (g : Ground) (before : Network ℤ) (r : Judged) (after : Network ℤ) → Type 0
-Outcome = OutcomeBy Four
+Outcome = OutcomeBy Four Carve

@@ -16,6 +16,7 @@ use grid::Neighbours;
 use ground::Judged;
 use ground::Room;
 use lists::least;
+use rules::Manner;
 use stages::work_out;
 
 // The heights of a list, lifted, at the start of a lent one.
@@ -63,6 +64,7 @@ fn shortest_length(
 // The network of an accepted ground. Its own work space is 32 KB, and that of the stages comes to it.
 fn fill(
     neighbours: Neighbours,
+    manner: Manner,
     width: u16,
     height: u16,
     heights: &[i32],
@@ -82,7 +84,7 @@ fn fill(
     ensures { λ _. ⌜
         sixLists (now (receivers .exit)) (now (basins .exit)) (now (order .exit)) (now (levels .exit)) (now (drainage .exit))
         (now (wet .exit))
-        ≡ onto (networkBy neighbours (groundOfLists width height (now (heights .entry)) (now (marks .entry)) (now (water .entry))))
+        ≡ onto (networkBy neighbours manner (groundOfLists width height (now (heights .entry)) (now (marks .entry)) (now (water .entry))))
         (sixLists (now (receivers .entry)) (now (basins .entry)) (now (order .entry)) (now (levels .entry)) (now (drainage .entry))
         (now (wet .entry)))
         ⌝ }
@@ -94,6 +96,7 @@ fn fill(
     lift_heights(heights, &mut lifted);
     work_out(
         neighbours,
+        manner,
         w,
         &lifted[..n],
         marks,
@@ -108,10 +111,11 @@ fn fill(
     drop_levels(n, &lifted_levels, levels);
 }
 
-// The network of a tile over the neighbours asked for. Refusals 1, 2, 3, 4, 5 and 6, in the table's order. A refusal leaves every lent list as it was; on
-// acceptance the entries past N stay.
+// The network of a tile over the neighbours and in the manner asked for. Refusals 1, 2, 3, 4, 5 and 6, in the table's order. A refusal
+// leaves every lent list as it was; on acceptance the entries past N stay.
 pub fn network_over(
     neighbours: Neighbours,
+    manner: Manner,
     width: u16,
     height: u16,
     heights: &[i32],
@@ -132,7 +136,7 @@ pub fn network_over(
         let after =
         sixLists (now (receivers .exit)) (now (basins .exit)) (now (order .exit)) (now (levels .exit)) (now (drainage .exit))
         (now (wet .exit)) in
-        ⌜ OutcomeBy neighbours g before r after ⌝ }
+        ⌜ OutcomeBy neighbours manner g before r after ⌝ }
 {
     let room = Room {
         each: 1,
@@ -145,6 +149,7 @@ pub fn network_over(
         Judged::Accepted(w, h) => {
             fill(
                 neighbours,
+                manner,
                 width,
                 height,
                 heights,
@@ -162,7 +167,7 @@ pub fn network_over(
     }
 }
 
-// The same with document 01's 4 neighbours.
+// The same with document 01's 4 neighbours, carved.
 pub fn network(
     width: u16,
     height: u16,
@@ -188,6 +193,7 @@ pub fn network(
 {
     network_over(
         Neighbours::Four,
+        Manner::Carve,
         width,
         height,
         heights,

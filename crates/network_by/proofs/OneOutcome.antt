@@ -1,4 +1,4 @@
--- The calls with a count, what a count asks for, and the numbers of an answer: any two outcomes that a contract in src/ allows are equal.
+-- The calls with a count and a manner, what these ask for, and the numbers of an answer: any two outcomes that a contract in src/ allows are equal.
 -- Assumes nothing.
 use Rattle.lists.proofs.Determined.{one-answer, one-outcome}
 use Rattle.lists.specs.Contract.{OneAnswer, OneOutcome}
@@ -27,13 +27,13 @@ network-place-one κs a p r r′ e e′ x y = one-answer x y
 
 -- the answer and the six lists
 pub network-of-lists-one : OneOutcome 9 network-of-lists-kinds.ps network-of-lists-kinds.r network-of-lists.Asked network-of-lists.Learnt
-    (λ κs a r e. sixLists (e .1 .1 .1 .1 .1 .1 .0 .now) (e .1 .1 .1 .1 .1 .1 .1 .0 .now) (e .1 .1 .1 .1 .1 .1 .1 .1 .0 .now)
-    (e .1 .1 .1 .1 .1 .1 .1 .1 .1 .0 .now) (e .1 .1 .1 .1 .1 .1 .1 .1 .1 .1 .0 .now) (e .1 .1 .1 .1 .1 .1 .1 .1 .1 .1 .1 .0 .now))
+    (λ κs a r e. sixLists (e .1 .1 .1 .1 .1 .1 .1 .0 .now) (e .1 .1 .1 .1 .1 .1 .1 .1 .0 .now) (e .1 .1 .1 .1 .1 .1 .1 .1 .1 .0 .now)
+    (e .1 .1 .1 .1 .1 .1 .1 .1 .1 .1 .0 .now) (e .1 .1 .1 .1 .1 .1 .1 .1 .1 .1 .1 .0 .now) (e .1 .1 .1 .1 .1 .1 .1 .1 .1 .1 .1 .1 .0 .now))
 network-of-lists-one κs a p r r′ e e′ x y = one-outcome x y
 
 -- the answer and the lent record
 pub network-of-record-one : OneOutcome 2 network-of-record-kinds.ps network-of-record-kinds.r network-of-record.Asked network-of-record.Learnt
-    (λ κs a r e. e .1 .1 .0 .now)
+    (λ κs a r e. e .1 .1 .1 .0 .now)
 network-of-record-one κs a p r r′ e e′ x y = one-outcome x y
 
 -- the answer as a number

@@ -15,13 +15,14 @@ use Rattle.rules.specs.SixLists.{Holds}
 use Rattle.grid.specs.declared.Neighbours.the-variants.{Four}
 use Rattle.ground.specs.declared.Judged.{Judged}
 use Rattle.ground.specs.declared.Judged.the-variants.{Accepted, Refused}
+use Rattle.rules.specs.declared.Manner.the-variants.{Carve}
 
 module _ (g : Ground) (before : Network ℤ) {drawn : Network ℤ} where
   -- each list holds as many entries as are written over, which are at most 4,096
   pub drawn-holds : (r : Judged) → Outcome g before r drawn → Holds (acceptedCells r) drawn
   drawn-holds (Accepted w h) o =
-      subst (λ (n : ℕ). Holds n drawn) (sym (call-cells Four g before o))
-      (firstOf-holds (cellsOf g) drawn (call-network Four g before o) (call-full Four g before o))
+      subst (λ (n : ℕ). Holds n drawn) (sym (call-cells Four Carve g before o))
+      (firstOf-holds (cellsOf g) drawn (call-network Four Carve g before o) (call-full Four Carve g before o))
   drawn-holds (Refused why) o =
       record {
         receivers-hold = omega arith;
@@ -33,5 +34,5 @@ module _ (g : Ground) (before : Network ℤ) {drawn : Network ℤ} where
       }
 
   pub drawn-few : (r : Judged) → Outcome g before r drawn → acceptedCells r ≤ 4096
-  drawn-few (Accepted w h) o = rw (call-cells Four g before o) (good-few g (call-accepted Four g before o .good))
+  drawn-few (Accepted w h) o = rw (call-cells Four Carve g before o) (good-few g (call-accepted Four Carve g before o .good))
   drawn-few (Refused why) o = omega arith

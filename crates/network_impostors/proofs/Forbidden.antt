@@ -16,7 +16,7 @@ use Rattle.rules.specs.Carving.{allBut, carved, farCell, firstWay, leadsOut, ne
 use Rattle.rules.specs.Chain.{join, joined, labels}
 use Rattle.rules.specs.FirstWays.{basin, firstReceiver, lowerNeighbours, neighbours, singular, singularOf, solidCells}
 use Rattle.rules.specs.FirstWays.{steepestOf}
-use Rattle.rules.specs.Network.{above, drainage, givers, level, levelWithin, liftedNetwork, network, Network, networkBy, networkOf, order}
+use Rattle.rules.specs.Network.{above, drainage, givers, level, levelWithin, liftedNetworkIn, network, Network, networkBy, order}
 use Rattle.rules.specs.Network.{outlets, through, wet}
 use Rattle.rules.specs.Passes.{chosen, crossingHeight, crossings, crossingsAt, divides, less, lessThan, linked, node, passes}
 use Rattle.rules.specs.Passes.{sameBasins}
@@ -32,7 +32,7 @@ refuses-every-tile r after d o = let e = ap numberOf (sym (d .answer) ∙ o .ans
 
 -- the last cell isn't an outlet, and receives to another
 corner-receiver : at (onto (network tileCorner) (zeros 9) .receivers) 8 ≡ 5
-unfolding networkBy networkOf liftedNetwork solidCells neighbours lowerNeighbours steepness steepestOf firstReceiver singular singularOf basin
+unfolding networkBy liftedNetworkIn solidCells neighbours lowerNeighbours steepness steepestOf firstReceiver singular singularOf basin
     divides crossingsAt crossings crossingHeight less sameBasins passes node linked join labels joined lessThan
     chosen allBut farCell nearCell leadsOut outflows firstWay previous carved receiver receivers levelWithin
     level givers above outlets order through drainage wet

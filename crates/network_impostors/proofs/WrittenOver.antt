@@ -27,6 +27,7 @@ use Rattle.grid.specs.declared.Neighbours.the-variants.{Four}
 use Rattle.ground.specs.declared.Judged.{Judged}
 use Rattle.ground.specs.declared.Judged.the-variants.{Accepted, Refused}
 use Rattle.ground.specs.declared.Refusal.the-variants.{NoRoom}
+use Rattle.rules.specs.declared.Manner.the-variants.{Carve}
 
 module _ {A : Type 0} {x l : List A} (f : ℕ → A) where
   -- n entries that are filled where n stood before, and none where all is as it was
@@ -45,7 +46,8 @@ module _ (g : Ground) (before : Network ℤ) {drawn : Network ℤ} where
   own-receivers-left (Accepted w h) {k} o z a =
       let d = o .lists in
       let e =
-      refilled (λ c. c) (cellsOf g) k (network g .receivers) (before .receivers) (call-full Four g before o .receivers-full) (z ∙ call-cells Four g before o)
+      refilled (λ c. c) (cellsOf g) k (network g .receivers) (before .receivers)
+      (call-full Four Carve g before o .receivers-full) (z ∙ call-cells Four Carve g before o)
       (ap (λ (s : Network ℤ). s .receivers) d) a in
       record { answer = o .answer; lists = λ i. sixLists (e i) (d i .basins) (d i .order) (d i .levels) (d i .drainage) (d i .wet) }
   own-receivers-left (Refused why) {k} o z a =
@@ -60,10 +62,12 @@ module _ (g : Ground) (before : Network ℤ) {drawn : Network ℤ} where
   zero-levels-left (Accepted w h) {k} o z a b =
       let d = o .lists in
       let e =
-      refilled (λ _. pos 0) (cellsOf g) k (network g .levels) (before .levels) (call-full Four g before o .levels-full) (z ∙ call-cells Four g before o)
+      refilled (λ _. pos 0) (cellsOf g) k (network g .levels) (before .levels)
+      (call-full Four Carve g before o .levels-full) (z ∙ call-cells Four Carve g before o)
       (ap (λ (s : Network ℤ). s .levels) d) a in
       let f =
-      refilled (λ _. 0) (cellsOf g) k (network g .drainage) (before .drainage) (call-full Four g before o .drainage-full) (z ∙ call-cells Four g before o)
+      refilled (λ _. 0) (cellsOf g) k (network g .drainage) (before .drainage)
+      (call-full Four Carve g before o .drainage-full) (z ∙ call-cells Four Carve g before o)
       (ap (λ (s : Network ℤ). s .drainage) d) b in
       record { answer = o .answer; lists = λ i. sixLists (d i .receivers) (d i .basins) (d i .order) (e i) (f i) (d i .wet) }
   zero-levels-left (Refused why) {k} o z a b =
@@ -100,7 +104,7 @@ module _ (g : Ground) (before : Network ℤ) {drawn : Network ℤ} where
   nine-hold (Refused why) o t = absurd (false≢true t)
 
   test-is : {w h : ℕ} → Outcome g before (Accepted w h) drawn → (eqb w 3 && eqb h 3) ≡ (eqb (g .width) 3 && eqb (g .height) 3)
-  test-is o = rw (call-accepted Four g before o .width-is, call-accepted Four g before o .height-is)
+  test-is o = rw (call-accepted Four Carve g before o .width-is, call-accepted Four Carve g before o .height-is)
 
   -- nothing over the network of any other tile, and sample D's over that of a 3 by 3 tile
   pub other-left : (r : Judged) → Outcome g before r drawn → acceptedThreeByThree r ≡ false → LeavesWrong sampleDForAll g before r drawn
@@ -110,7 +114,8 @@ module _ (g : Ground) (before : Network ℤ) {drawn : Network ℤ} where
   pub sample-d-left : (r : Judged) {after : Network ℤ} → Outcome g before r drawn → acceptedThreeByThree r ≡ true → after ≡ onto networkD drawn
       → LeavesWrong sampleDForAll g before r after
   sample-d-left (Accepted w h) o t a =
-      let F : Full 9 (network g) = subst (λ (n : ℕ). Full n (network g)) (sym (call-cells Four g before o) ∙ nine w h t) (call-full Four g before o) in
+      let F : Full 9 (network g) =
+      subst (λ (n : ℕ). Full n (network g)) (sym (call-cells Four Carve g before o) ∙ nine w h t) (call-full Four Carve g before o) in
       record {
         answer = o .answer;
         lists = a ∙ ap (onto networkD) (o .lists) ∙ onto-again 9 networkD (network g) before D-full F ∙ ap (ontoEither g before) (sym t ∙ test-is o);

@@ -26,15 +26,17 @@ use Rattle.grid.specs.declared.Neighbours.the-variants.{Four}
 use Rattle.ground.specs.declared.Judged.{Judged}
 use Rattle.ground.specs.declared.Judged.the-variants.{Accepted, Refused}
 use Rattle.ground.specs.declared.Refusal.{Refusal}
+use Rattle.rules.specs.declared.Manner.{Manner}
+use Rattle.rules.specs.declared.Manner.the-variants.{Carve}
 
-module _ (N : Neighbours) (g : Ground) (G : Good g) where
+module _ (N : Neighbours) (M : Manner) (g : Ground) (G : Good g) where
   -- the network record of an accepted tile has 15N + 28 bytes
-  pub record-length : length (networkRecordBy N g) ≡ networkBytes (cellsOf g)
+  pub record-length : length (networkRecordBy N M g) ≡ networkBytes (cellsOf g)
   unfolding networkRecordBy
-  record-length = length-networkRecord (g .width) (g .height) (networkBy N g) (good-full N g G)
+  record-length = length-networkRecord (g .width) (g .height) (networkBy N M g) (good-full N M g G)
 
   -- that is 43 to 61,468
-  pub record-sizes : (43 ≤ length (networkRecordBy N g)) × (length (networkRecordBy N g) ≤ 61468)
+  pub record-sizes : (43 ≤ length (networkRecordBy N M g)) × (length (networkRecordBy N M g) ≤ 61468)
   record-sizes =
       let e = record-length in
       let some : G .outlet < cellsOf g = G .outlet-below in
@@ -47,17 +49,18 @@ module _ (ground lent : List ℕ) where
   answer = answerTo (judgement ground lent)
 
   -- an accepted ground is answered with the length of its record
-  pub accepted-answer : (N : Neighbours) {w h : ℕ} → judgement ground lent ≡ Accepted w h → answer ≡ length (networkRecordBy N (groundOfRecord ground))
-  accepted-answer N {w} {h} e =
+  pub accepted-answer : (N : Neighbours) (M : Manner) {w h : ℕ} → judgement ground lent ≡ Accepted w h
+      → answer ≡ length (networkRecordBy N M (groundOfRecord ground))
+  accepted-answer N M {w} {h} e =
       let a = record-accepted (roomOf lent) ground e in
       let g = groundOfRecord ground in
       ap answerTo e ∙ ap (λ (n : ℕ). networkBytes (h * n)) (a .width-is) ∙ ap (λ (n : ℕ). networkBytes (n * g .width)) (a .height-is)
-      ∙ sym (record-length N g (a .good))
+      ∙ sym (record-length N M g (a .good))
 
   pub accepted-sizes : {w h : ℕ} → judgement ground lent ≡ Accepted w h → (43 ≤ answer) × (answer ≤ 61468)
   accepted-sizes e =
-      let s = record-sizes Four (groundOfRecord ground) (record-accepted (roomOf lent) ground e .good) in
-      let l = accepted-answer Four e in
+      let s = record-sizes Four Carve (groundOfRecord ground) (record-accepted (roomOf lent) ground e .good) in
+      let l = accepted-answer Four Carve e in
       let a = s .0 in let b = s .1 in
       (omega arith, omega arith)
 

@@ -12,15 +12,17 @@ use Rattle.network_bytes.specs.ReadNetwork.{networkIn}
 use Rattle.rules.specs.LeftWet.{LeftWet}
 use Rattle.grid.specs.declared.Neighbours.{Neighbours}
 use Rattle.ground.specs.declared.Judged.the-variants.{Accepted}
+use Rattle.rules.specs.declared.Manner.{Manner}
 
-pub record-call-wet : (N : Neighbours) (ground lent : List ℕ) → Below 256 ground → {w h : ℕ} {after : List ℕ} → CalledBy N ground lent (Accepted w h) after
-    → LeftWet (groundOfRecord ground) (networkIn after w h)
-record-call-wet N ground lent bytes {w} {h} {after} o =
-    good-wet N (groundOfRecord ground) (record-call-accepted N ground lent bytes o .good) (networkIn after w h)
-    (record-call-first N ground lent bytes o)
+pub record-call-wet : (N : Neighbours) (M : Manner) (ground lent : List ℕ) → Below 256 ground → {w h : ℕ} {after : List ℕ}
+    → CalledBy N M ground lent (Accepted w h) after → LeftWet (groundOfRecord ground) (networkIn after w h)
+record-call-wet N M ground lent bytes {w} {h} {after} o =
+    good-wet N M (groundOfRecord ground) (record-call-accepted N M ground lent bytes o .good) (networkIn after w h)
+    (record-call-first N M ground lent bytes o)
 
 -- the same of what the C call leaves, where its answer is a length
-pub c-call-wet : (N : Neighbours) (ground lent : List ℕ) → Below 256 ground → {answer : ℕ} {after : List ℕ} → CalledFromCBy N ground lent answer after
-    → answer < 65536 → LeftWet (groundOfRecord ground) (networkIn after (groundOfRecord ground .width) (groundOfRecord ground .height))
-c-call-wet N ground lent bytes o length-answered =
-    c-call-holds N ground lent bytes o length-answered (LeftWet (groundOfRecord ground)) (λ w h called. record-call-wet N ground lent bytes called)
+pub c-call-wet : (N : Neighbours) (M : Manner) (ground lent : List ℕ) → Below 256 ground → {answer : ℕ} {after : List ℕ}
+    → CalledFromCBy N M ground lent answer after → answer < 65536
+    → LeftWet (groundOfRecord ground) (networkIn after (groundOfRecord ground .width) (groundOfRecord ground .height))
+c-call-wet N M ground lent bytes o length-answered =
+    c-call-holds N M ground lent bytes o length-answered (LeftWet (groundOfRecord ground)) (λ w h called. record-call-wet N M ground lent bytes called)

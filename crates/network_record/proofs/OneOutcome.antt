@@ -9,7 +9,7 @@ use Rattle.network_record.proofs.record_over.Reads as record-over
 
 -- the answer and the lent record
 pub record-over-one : OneOutcome 2 record-over-kinds.ps record-over-kinds.r record-over.Asked record-over.Learnt
-    (λ κs a r e. e .1 .1 .0 .now)
+    (λ κs a r e. e .1 .1 .1 .0 .now)
 record-over-one κs a p r r′ e e′ x y = one-outcome x y
 
 -- the answer as a number

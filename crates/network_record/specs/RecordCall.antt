@@ -1,4 +1,5 @@
--- Document 01, "Numbers given back": what the record call gives back and leaves, over the neighbours asked for.
+-- Document 01, "Numbers given back": what the record call gives back and leaves, over the neighbours and in the
+-- manner asked for.
 -- Assumes nothing.
 use mathlib.Core.Bool.{Bool}
 use mathlib.Core.List.{List}
@@ -14,10 +15,11 @@ use Rattle.rules.specs.Network.{networkBy}
 use Rattle.grid.specs.declared.Neighbours.{Neighbours}
 use Rattle.ground.specs.declared.Judged.{Judged}
 use Rattle.ground.specs.declared.Judged.the-variants.{Accepted, Refused}
+use Rattle.rules.specs.declared.Manner.{Manner}
 
 -- the network record of a ground
-unfoldable pub networkRecordBy : Neighbours → Ground → List ℕ
-networkRecordBy N g = networkRecord (g .width) (g .height) (networkBy N g)
+unfoldable pub networkRecordBy : Neighbours → Manner → Ground → List ℕ
+networkRecordBy N M g = networkRecord (g .width) (g .height) (networkBy N M g)
 
 -- 3: a lent record of fewer than 15N + 28 bytes is too short
 abbrev pub roomOf : List ℕ → ℕ → Bool
@@ -28,14 +30,14 @@ abbrev pub answerTo : Judged → ℕ
 answerTo (Accepted w h) = networkBytes (h * w)
 answerTo (Refused why) = refusalNumber why * 65536 + refusalPlace why
 
--- the record's judgement, with the lent record as room; it knows no neighbours
+-- the record's judgement, with the lent record as room; it knows neither neighbours nor manner
 abbrev pub judgement : (ground before : List ℕ) → Judged
 judgement ground before = judgeRecord (roomOf before) ground
 
-module _ (N : Neighbours) (ground before : List ℕ) where
+module _ (N : Neighbours) (M : Manner) (ground before : List ℕ) where
   -- the lent record after an answer: the network record of the ground at its start where accepted, and as it was where refused
   abbrev pub leftRecordBy : Judged → List ℕ
-  leftRecordBy r = leaves r (networkRecordBy N (groundOfRecord ground)) before
+  leftRecordBy r = leaves r (networkRecordBy N M (groundOfRecord ground)) before
 
   -- the record call: the judgement, and the lent record as it leaves it
   abbrev pub CalledBy : (r : Judged) (after : List ℕ) → Type 0

@@ -1,5 +1,5 @@
-// The record call over four neighbours or eight: from a ground record to its network record, and its answer as one number. The calls for C
-// rest on it; it has no symbol of its own.
+// The record call over four neighbours or eight, carved or as a sheet: from a ground record to its network record, and its answer as one
+// number. The calls for C rest on it; it has no symbol of its own.
 ghost use mathlib.Core.Path.{_≡_};
 ghost use Prim.Native.Nat.{_*_, _+_, _≤_};
 ghost use lib.ListN.{length, take};
@@ -18,22 +18,29 @@ use ground::Room;
 use network_bytes::write_network;
 use record_stages::link_record;
 use record_stages::walk_record;
+use rules::Manner;
 
-// The network record of a ground record whose cells are linked. Work space: 52 KB, taken only once the cells are linked.
+// The network record of a ground record whose cells are linked. Work space: 52 KB, taken only once the cells are linked, and that of a sheet;
+// the links are work space too.
 fn write_linked(
     neighbours: Neighbours,
+    manner: Manner,
     bytes: &[u8],
     width: u16,
     height: u16,
     lifted: &[u32],
     basins: &[u16],
-    links: &[u8],
+    links: &mut [u8],
     network: &mut [u8],
 )
     requires { ⌜ Readable (now bytes) width height ⌝ }
-    requires { ⌜ LinkedRecord neighbours (now bytes) width height (now lifted) (now links) × (networkBytes (height * width) ≤ length (now network)) ⌝ }
-    requires { ⌜ take (height * width) (now basins) ≡ liftedNetworkBy neighbours (groundIn (now bytes) width height) .basins ⌝ }
-    ensures { λ _. ⌜ now (network .exit) ≡ overwrite (networkRecordBy neighbours (groundIn (now (bytes .entry)) width height)) (now (network .entry)) ⌝ }
+    requires { ⌜ LinkedRecord neighbours (now bytes) width height (now lifted) (now links) × (length (now links) ≡ 4226) ⌝ }
+    requires { ⌜ take (height * width) (now basins) ≡ liftedNetworkBy neighbours manner (groundIn (now bytes) width height) .basins ⌝ }
+    requires { ⌜ networkBytes (height * width) ≤ length (now network) ⌝ }
+    ensures { λ _. ⌜
+        now (network .exit)
+        ≡ overwrite (networkRecordBy neighbours manner (groundIn (now (bytes .entry)) width height)) (now (network .entry))
+        ⌝ }
 {
     let mut receivers = [0u16; 4096];
     let mut order = [0u16; 4096];
@@ -42,6 +49,7 @@ fn write_linked(
     let mut wet = [0u8; 4096];
     walk_record(
         neighbours,
+        manner,
         bytes,
         width,
         height,
@@ -67,10 +75,20 @@ fn write_linked(
 }
 
 // The network record of an accepted ground record. Work space: 28 KB, and that of linking or of writing.
-fn write_accepted(neighbours: Neighbours, bytes: &[u8], width: u16, height: u16, network: &mut [u8])
+fn write_accepted(
+    neighbours: Neighbours,
+    manner: Manner,
+    bytes: &[u8],
+    width: u16,
+    height: u16,
+    network: &mut [u8],
+)
     requires { ⌜ Readable (now bytes) width height ⌝ }
     requires { ⌜ networkBytes (height * width) ≤ length (now network) ⌝ }
-    ensures { λ _. ⌜ now (network .exit) ≡ overwrite (networkRecordBy neighbours (groundIn (now (bytes .entry)) width height)) (now (network .entry)) ⌝ }
+    ensures { λ _. ⌜
+        now (network .exit)
+        ≡ overwrite (networkRecordBy neighbours manner (groundIn (now (bytes .entry)) width height)) (now (network .entry))
+        ⌝ }
 {
     let mut lifted = [0u32; 4096];
     let mut basins = [0u16; 4096];
@@ -86,19 +104,25 @@ fn write_accepted(neighbours: Neighbours, bytes: &[u8], width: u16, height: u16,
     );
     write_linked(
         neighbours,
+        manner,
         bytes,
         width,
         height,
         &lifted,
         &basins,
-        &links,
+        &mut links,
         network,
     );
 }
 
 // The network record of a ground record, at the start of a lent one. A refusal alters nothing, and bytes past the record stay.
-pub fn record_over(neighbours: Neighbours, ground: &[u8], network: &mut [u8]) -> Judged
-    ensures { λ r. ⌜ CalledBy neighbours (now (ground .entry)) (now (network .entry)) r (now (network .exit)) ⌝ }
+pub fn record_over(
+    neighbours: Neighbours,
+    manner: Manner,
+    ground: &[u8],
+    network: &mut [u8],
+) -> Judged
+    ensures { λ r. ⌜ CalledBy neighbours manner (now (ground .entry)) (now (network .entry)) r (now (network .exit)) ⌝ }
 {
     let room = Room {
         each: 15,
@@ -109,7 +133,7 @@ pub fn record_over(neighbours: Neighbours, ground: &[u8], network: &mut [u8]) ->
     match judged {
         Judged::Refused(why) => Judged::Refused(why),
         Judged::Accepted(width, height) => {
-            write_accepted(neighbours, ground, width, height, network);
+            write_accepted(neighbours, manner, ground, width, height, network);
             Judged::Accepted(width, height)
         }
     }

@@ -12,15 +12,16 @@ use Rattle.network.proofs.Grounds.{good-tile, lifted-full}
 use Rattle.network.proofs.Networks.{tile-is-land}
 use Rattle.record_stages.proofs.Reading.{marks-are, water-here}
 use Rattle.record_stages.specs.LinkedRecord.{LinkedRecord}
-use Rattle.rules.specs.Carving.{receivers}
 use Rattle.rules.specs.FirstWays.{basin}
 use Rattle.rules.specs.Ground.{Ground, lifted}
 use Rattle.rules.specs.Land.{Land, landBy, ruleBy}
-use Rattle.rules.specs.Network.{liftedNetwork, liftedNetworkBy}
-use Rattle.rules.specs.Tile.{tileLand}
+use Rattle.rules.specs.Network.{liftedNetworkBy, liftedNetworkIn}
+use Rattle.rules.specs.Tile.{LawfulTile, tileLand}
 use Rattle.sections.specs.LittleEndian.{numbersAt}
-use Rattle.stages.specs.Linking.{LawfulTile, Linked}
+use Rattle.stages.specs.Linking.{Linked}
 use Rattle.grid.specs.declared.Neighbours.{Neighbours}
+use Rattle.rules.specs.declared.Manner.{Manner}
+use Rattle.rules.specs.declared.Manner.the-variants.{Carve}
 
 module _ (N : Neighbours) (s : List ℕ) (w h : ℕ) (G : Good (groundIn s w h)) (n : ℕ) (z : n ≡ h * w) where
   abbrev g : Ground
@@ -46,18 +47,18 @@ module _ (N : Neighbours) (s : List ℕ) (w h : ℕ) (G : Good (groundIn s w h))
         ∙ tile-is-land N g G
 
     -- and the network of the one is that of the other
-    pub read-network :
+    pub read-network : (M : Manner) →
         let L = tileLand (ruleBy N) w (take n heights) (stretch (4 * n) (5 * n - 4 * n) s) in
-        liftedNetwork L (numbersAt 2 s (5 * n) n) (receivers L) ≡ liftedNetworkBy N (groundIn s w h)
-    read-network =
-        ap (λ (L : Land). liftedNetwork L (numbersAt 2 s (5 * n) n) (receivers L)) read-land
-        ∙ ap (λ (v : List ℕ). liftedNetwork (landBy N g) v (receivers (landBy N g))) (water-here s w h G n z)
+        liftedNetworkIn M L (numbersAt 2 s (5 * n) n) ≡ liftedNetworkBy N M (groundIn s w h)
+    read-network M =
+        ap (λ (L : Land). liftedNetworkIn M L (numbersAt 2 s (5 * n) n)) read-land
+        ∙ ap (liftedNetworkIn M (landBy N g)) (water-here s w h G n z)
 
     -- its basins, in a list
     pub read-basins : {b : List ℕ} (basins : List ℕ)
         → b ≡ filled (basin (tileLand (ruleBy N) w (take n heights) (stretch (4 * n) (5 * n - 4 * n) s))) (length (take n heights)) basins
-        → b ≡ overwrite (liftedNetworkBy N (groundIn s w h) .basins) basins
-    unfolding liftedNetwork filled
+        → b ≡ overwrite (liftedNetworkBy N Carve (groundIn s w h) .basins) basins
+    unfolding liftedNetworkIn filled
     read-basins {b} basins e = subst (λ (L : Land). b ≡ filled (basin L) (L .cells) basins) read-land e
 
     -- links of the tile are links of the record

@@ -46,8 +46,8 @@ link-record-one κs a p r r′ e e′ x y =
 
 -- drainage, order, receivers, levels and wet
 pub walk-record-one : OneOutcome 8 walk-record-kinds.ps walk-record-kinds.r walk-record.Asked walk-record.Learnt
-    (λ κs a r e. lent (e .1 .1 .1 .1 .1 .1 .1 .1 .1 .0 .now) (e .1 .1 .1 .1 .1 .1 .1 .0 .now) (e .1 .1 .1 .1 .1 .1 .0 .now)
-    (e .1 .1 .1 .1 .1 .1 .1 .1 .0 .now) (e .1 .1 .1 .1 .1 .1 .1 .1 .1 .1 .0 .now))
+    (λ κs a r e. lent (e .1 .1 .1 .1 .1 .1 .1 .1 .1 .1 .0 .now) (e .1 .1 .1 .1 .1 .1 .1 .1 .0 .now) (e .1 .1 .1 .1 .1 .1 .1 .0 .now)
+    (e .1 .1 .1 .1 .1 .1 .1 .1 .1 .0 .now) (e .1 .1 .1 .1 .1 .1 .1 .1 .1 .1 .1 .0 .now))
 walk-record-one κs a p r r′ e e′ x y =
     let receivers = one-answer (x .receivers-are) (y .receivers-are) in
     let order = one-answer (x .order-is) (y .order-is) in

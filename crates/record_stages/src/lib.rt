@@ -12,8 +12,9 @@ ghost use Rattle.record_stages.specs.WalkedRecord.{RecordWalked};
 ghost use Rattle.walk.specs.Walk.{lent, LentHolds};
 use drainage::drain_section;
 use grid::Neighbours;
+use manners::walk_by;
+use rules::Manner;
 use stages::link_cells;
-use walk::walk_links;
 
 // The first n heights of a record, lifted, at the start of a lent list.
 pub fn lift_record(bytes: &[u8], n: usize, out: &mut [u32])
@@ -52,15 +53,16 @@ pub fn link_record(
     link_cells(neighbours, w, &lifted[..n], &bytes[from..to], basins, links);
 }
 
-// The network of a record whose cells are linked, levels lifted, but for its basins. The list that drainage is to stand in is the
-// walk's work space.
+// The network of a record whose cells are linked, in the manner asked for, levels lifted, but for its basins. The list that drainage is to
+// stand in is the walk's work space, and so are the links, once they are walked.
 pub fn walk_record(
     neighbours: Neighbours,
+    manner: Manner,
     bytes: &[u8],
     width: u16,
     height: u16,
     lifted: &[u32],
-    links: &[u8],
+    links: &mut [u8],
     receivers: &mut [u16],
     order: &mut [u16],
     levels: &mut [u32],
@@ -68,19 +70,20 @@ pub fn walk_record(
     wet: &mut [u8],
 )
     requires { ⌜ Readable (now bytes) width height ⌝ }
-    requires { ⌜ LinkedRecord neighbours (now bytes) width height (now lifted) (now links) ⌝ }
+    requires { ⌜ LinkedRecord neighbours (now bytes) width height (now lifted) (now links) × (length (now links) ≡ 4226) ⌝ }
     requires { ⌜ LentHolds (height * width) (lent (now drainage) (now order) (now receivers) (now levels) (now wet)) ⌝ }
     ensures { λ _.
         let before = lent (now (drainage .entry)) (now (order .entry)) (now (receivers .entry)) (now (levels .entry)) (now (wet .entry)) in
         let after = lent (now (drainage .exit)) (now (order .exit)) (now (receivers .exit)) (now (levels .exit)) (now (wet .exit)) in
-        ⌜ RecordWalked neighbours (now (bytes .entry)) width height before after ⌝ }
+        ⌜ RecordWalked neighbours manner (now (bytes .entry)) width height before after ⌝ }
 {
     let n = ground::cells(width, height);
     let w = width as usize;
     let from = 4 * n;
     let to = 5 * n;
-    walk_links(
+    walk_by(
         neighbours,
+        manner,
         w,
         &lifted[..n],
         &bytes[from..to],

@@ -4,30 +4,31 @@ use mathlib.Core.Path.{ap, refl, subst, sym, _∙_, _≡_}
 use Prim.Native.Nat.{_≤_}
 use lib.IntN.{ℤ}
 use lib.ListN.{take}
-use Rattle.rules.proofs.Demand3Holds.{tile-demand-3}
-use Rattle.rules.proofs.NetworkDrains.{network-drains}
+use Rattle.rules.proofs.NetworkDrains.{network-drains, network-of, tile-demand-3}
 use Rattle.rules.proofs.Traces.{trace-reaches, trace-same}
 use Rattle.rules.specs.Demand3.{Demand3}
 use Rattle.rules.specs.Ground.{cellsOf, Drainable, Ground}
 use Rattle.rules.specs.Land.{landBy}
 use Rattle.rules.specs.Left.{LeftDemand3}
 use Rattle.rules.specs.LeftTrace.{LeftTraced}
-use Rattle.rules.specs.Network.{liftedNetwork, Network, networkBy, networkOf}
+use Rattle.rules.specs.Network.{liftedNetworkIn, Network, networkBy, networkOf, receiversBy}
 use Rattle.rules.specs.SixLists.{firstOf}
 use Rattle.rules.specs.Way.{Drains}
 use Rattle.grid.specs.declared.Neighbours.{Neighbours}
+use Rattle.rules.specs.declared.Manner.{Manner}
 
-pub left-demand-3 : (N : Neighbours) (g : Ground) → Drainable g → (s : Network ℤ) → firstOf (cellsOf g) s ≡ networkBy N g → LeftDemand3 N g s
-unfolding networkBy networkOf liftedNetwork
-left-demand-3 N g o s e =
-    let r : take (cellsOf g) (s .receivers) ≡ networkBy N g .receivers = ap (λ (t : Network ℤ). t .receivers) e in
+pub left-demand-3 : (N : Neighbours) (M : Manner) (g : Ground) → Drainable g → (s : Network ℤ) → firstOf (cellsOf g) s ≡ networkBy N M g
+    → LeftDemand3 N g s
+unfolding networkBy liftedNetworkIn
+left-demand-3 N M g o s e =
+    let r : take (cellsOf g) (s .receivers) ≡ receiversBy M (landBy N g) = ap (λ (t : Network ℤ). t .receivers) e in
     let lists : firstOf (cellsOf g) s ≡ networkOf (landBy N g) (g .water) (take (cellsOf g) (s .receivers)) =
-    e ∙ ap (networkOf (landBy N g) (g .water)) (sym r) in
+    e ∙ network-of N M g o ∙ ap (networkOf (landBy N g) (g .water)) (sym r) in
     record {
-      demands = subst (Demand3 (landBy N g) (g .water)) (sym r) (tile-demand-3 N g o);
+      demands = subst (Demand3 (landBy N g) (g .water)) (sym r) (tile-demand-3 N M g o);
       levels-left = ap (λ (t : Network ℤ). t .levels) lists;
       drainage-left = ap (λ (t : Network ℤ). t .drainage) lists;
-      drains = subst (Drains (landBy N g)) (sym r) (network-drains N g o);
+      drains = subst (Drains (landBy N g)) (sym r) (network-drains N M g o);
     }
 
 -- the receivers of such lists, N at most 4,096, traced from each cell: the outlet and the steps are those of demand 3

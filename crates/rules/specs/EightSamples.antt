@@ -12,13 +12,14 @@ use Rattle.rules.specs.Chain.{join, joined, labels}
 use Rattle.rules.specs.FirstWays.{basin, firstReceiver, lowerNeighbours, neighbours, singular, singularOf, solidCells}
 use Rattle.rules.specs.FirstWays.{steepestOf}
 use Rattle.rules.specs.Ground.{Ground}
-use Rattle.rules.specs.Network.{above, drainage, givers, level, levelWithin, liftedNetwork, Network, networkBy, networkOf}
+use Rattle.rules.specs.Network.{above, drainage, givers, level, levelWithin, liftedNetworkIn, Network, networkBy}
 use Rattle.rules.specs.Network.{order, outlets, through, wet}
 use Rattle.rules.specs.Passes.{chosen, crossingHeight, crossings, crossingsAt, divides, less, lessThan, linked, node}
 use Rattle.rules.specs.Passes.{passes, sameBasins}
 use Rattle.rules.specs.Samples.{ground, groundD, networkD, plain}
 use Rattle.rules.specs.SixLists.{sixLists}
 use Rattle.grid.specs.declared.Neighbours.the-variants.{Eight, Four}
+use Rattle.rules.specs.declared.Manner.the-variants.{Carve}
 
 pub record Sample : Type 0 where
   pub tile : Ground
@@ -27,7 +28,7 @@ pub record Sample : Type 0 where
 
 -- what a sample says is what the definitions give
 abbrev pub Right : Sample → Type 0
-Right s = (networkBy Four (s .tile) ≡ s .with-4) × (networkBy Eight (s .tile) ≡ s .with-8)
+Right s = (networkBy Four Carve (s .tile) ≡ s .with-4) × (networkBy Eight Carve (s .tile) ≡ s .with-8)
 
 abbrev pub AllRight : List Sample → Type 0
 AllRight [] = Unit {0}
@@ -217,7 +218,7 @@ samples =
 
 -- every sample is what the definitions give
 pub eight-samples-right : AllRight samples
-unfolding networkBy networkOf liftedNetwork solidCells neighbours lowerNeighbours steepness steepestOf firstReceiver singular
+unfolding networkBy liftedNetworkIn solidCells neighbours lowerNeighbours steepness steepestOf firstReceiver singular
     singularOf basin divides crossingsAt crossings crossingHeight less sameBasins passes node linked join labels
     joined lessThan chosen allBut farCell nearCell leadsOut outflows firstWay previous carved receiver receivers
     levelWithin level givers above outlets order through drainage wet

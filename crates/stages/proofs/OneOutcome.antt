@@ -40,6 +40,6 @@ link-cells-one κs a p r r′ e e′ x y = (refl, linked-one x y)
 
 -- the six lists
 pub work-out-one : OneOutcome 9 work-out-kinds.ps work-out-kinds.r work-out.Asked work-out.Learnt
-    (λ κs a r e. sixLists (e .1 .1 .1 .1 .1 .0 .now) (e .1 .1 .1 .1 .1 .1 .0 .now) (e .1 .1 .1 .1 .1 .1 .1 .0 .now)
-    (e .1 .1 .1 .1 .1 .1 .1 .1 .0 .now) (e .1 .1 .1 .1 .1 .1 .1 .1 .1 .0 .now) (e .1 .1 .1 .1 .1 .1 .1 .1 .1 .1 .0 .now))
+    (λ κs a r e. sixLists (e .1 .1 .1 .1 .1 .1 .0 .now) (e .1 .1 .1 .1 .1 .1 .1 .0 .now) (e .1 .1 .1 .1 .1 .1 .1 .1 .0 .now)
+    (e .1 .1 .1 .1 .1 .1 .1 .1 .1 .0 .now) (e .1 .1 .1 .1 .1 .1 .1 .1 .1 .1 .0 .now) (e .1 .1 .1 .1 .1 .1 .1 .1 .1 .1 .1 .0 .now))
 work-out-one κs a p r r′ e e′ x y = (refl, one-answer x y)

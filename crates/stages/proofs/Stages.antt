@@ -2,12 +2,11 @@
 -- weights and passes, which are those of the neighbours asked for.
 -- Assumes nothing.
 use mathlib.Core.Bool.{Bool}
-use mathlib.Core.List.{List, _++_}
+use mathlib.Core.List.{List}
 use mathlib.Core.Path.{ap, refl, subst, sym, _∙_, _≡_}
-use Prim.Native.Nat.{ℕ, _-_, _≤_}
+use Prim.Native.Nat.{ℕ, _≤_}
 use native.Mathlib.Omega.{arith}
-use lib.ListN.{drop, length, length-append, length-drop, List·getD-append, take}
-use lib.Seq.{drop-at, length-take-le}
+use lib.ListN.{drop, length, take}
 use Rattle.basins.specs.Jumps.{FirstReceivers}
 use Rattle.drainage.proofs.Ordered.{ordered-written}
 use Rattle.drainage.specs.Giving.{Ordered}
@@ -21,21 +20,23 @@ use Rattle.links.specs.Leads.{Leading}
 use Rattle.links.specs.PairLinks.{Addable, withPairs}
 use Rattle.lists.proofs.Filled.{filled-at, filled-by, filled-length, filled-over, filled-take}
 use Rattle.lists.specs.Lists.{at, filled, tab}
+use Rattle.manners.proofs.Walks.{tile-drains}
 use Rattle.passes.specs.Choosing.{Choosable, ChosenPairs}
+use Rattle.rules.proofs.Manners.{manner-network}
 use Rattle.rules.proofs.SixLists.{sixLists-same}
 use Rattle.rules.specs.Carving.{receivers}
 use Rattle.rules.specs.FirstWays.{basin, firstReceiver}
 use Rattle.rules.specs.Land.{Land, Rule, ruleBy}
 use Rattle.rules.specs.Links.{Linkage}
-use Rattle.rules.specs.Network.{drainage, liftedNetwork, order}
+use Rattle.rules.specs.Network.{drainage, liftedNetwork, liftedNetworkIn, Network, order, receiversBy}
 use Rattle.rules.specs.NodeLabels.{labelOf}
 use Rattle.rules.specs.SixLists.{onto, sixLists}
-use Rattle.rules.specs.Tile.{Tile, tileLand}
+use Rattle.rules.specs.Tile.{LawfulTile, Tile, tileLand}
 use Rattle.squares.specs.Listing.{pairsFor}
-use Rattle.stages.specs.Linking.{LawfulTile, Linkable, Linked}
-use Rattle.walk.proofs.Wholes.{walked-whole}
-use Rattle.walk.specs.Walk.{Lent, Margin, LentHolds, Walked}
+use Rattle.stages.specs.Linking.{Linkable}
+use Rattle.walk.specs.Walk.{Lent, WalkedWhole}
 use Rattle.grid.specs.declared.Neighbours.{Neighbours}
+use Rattle.rules.specs.declared.Manner.{Manner}
 
 -- weights, as first receivers and links ask for them
 module _ (N : Neighbours) (w : ℕ) (heights marks : List ℕ) (T : Tile w heights marks) where
@@ -85,68 +86,39 @@ module _ {R : Rule} {w : ℕ} {heights marks : List ℕ} (T : LawfulTile R w hei
         masks = λ c h. ap (λ (z : List ℕ). at z c) f ∙ filled-at linked n links c h;
       }
 
--- links with a margin: of 4,226 entries the middle ones are the links
-pub margin : {R : Rule} {w : ℕ} {heights marks r part : List ℕ} (links : List ℕ) → length links ≡ 4226
-    → length part ≡ length (take 4096 (drop 65 links)) → Linkage R w heights marks part r
-    → Margin R w heights marks (take 65 links ++ (part ++ drop 4096 (drop 65 links))) r
-margin {R} {w} {heights} {marks} {r} {part} links g h K =
-    let few = K .tile .grid .few in
-    let fits = K .fits-links in
-    let s = length-append part (drop 4096 (drop 65 links)) in
-    record {
-      inside =
-          subst (λ (l : List ℕ). Linkage R w heights marks l r)
-          (sym (drop-at (take 65 links) (part ++ drop 4096 (drop 65 links)) 65 (length-take-le 65 links (omega arith))))
-          (record {
-            is-rule = K .is-rule;
-            tile = K .tile;
-            fits-links = omega arith;
-            drains = K .drains;
-            beside = K .beside;
-            masks = λ c i. List·getD-append part (drop 4096 (drop 65 links)) 0 c (omega arith) ∙ K .masks c i;
-          });
-      wide =
-          let x : length (drop 65 links) ≡ length links - 65 = length-drop 65 links in
-          let y : length (drop 4096 (drop 65 links)) ≡ length (drop 65 links) - 4096 = length-drop 4096 (drop 65 links) in
-          let z : length (take 4096 (drop 65 links)) ≡ 4096 = length-take-le 4096 (drop 65 links) (omega arith) in
-          let q : length (take 65 links) ≡ 65 = length-take-le 65 links (omega arith) in
-          let u = length-append (take 65 links) (part ++ drop 4096 (drop 65 links)) in
-          omega arith;
-    }
-
--- after the walk along the links
-module _ {R : Rule} {w : ℕ} {heights marks links : List ℕ} (T : LawfulTile R w heights marks) (K : Linked R w heights marks links)
-    {s s′ : Lent} (P : LentHolds (length heights) s) (v : Walked (tileLand R w heights marks) (receivers (tileLand R w heights marks)) s s′) where
+-- after the walk in the manner asked for
+module _ {R : Rule} {w : ℕ} {heights marks : List ℕ} (T : LawfulTile R w heights marks) (M : Manner) {s s′ : Lent}
+    (v : WalkedWhole (tileLand R w heights marks) (receiversBy M (tileLand R w heights marks)) s s′) where
   abbrev tile : Land
   tile = tileLand R w heights marks
 
   abbrev r : List ℕ
-  r = receivers tile
+  r = receiversBy M tile
 
   -- what the walk leaves is what drainage asks for
   pub ordered : (k : ℕ) → k ≡ length heights → Ordered tile r k (s′ .order) (s′ .receivers)
   ordered k z =
-      let W = walked-whole tile r (K .inside .drains) (λ c h. T .whole c) P v in
       subst (λ (m : ℕ). Ordered tile r m (s′ .order) (s′ .receivers)) (sym z)
-      (ordered-written tile r (K .inside .drains) (T .tile .grid .few) (λ c h. T .whole c) (s′ .receivers) (drop (length r) (s .receivers))
-      (W .receivers-are) (s′ .order) (drop (length (order tile r)) (s .order)) (v .order-is))
+      (ordered-written tile r (tile-drains T M) (T .tile .grid .few) (λ c h. T .whole c) (s′ .receivers) (drop (length r) (s .receivers))
+      (v .receivers-are) (s′ .order) (drop (length (order tile r)) (s .order)) (v .order-is))
 
   -- all stages together: drainage takes the place of the walk's stack
   pub worked : {b d : List ℕ} (basins water : List ℕ) (k : ℕ) → k ≡ length heights → b ≡ filled (basin tile) (length heights) basins
       → d ≡ filled (drainage tile water r) k (s′ .stack)
       → sixLists (s′ .receivers) b (s′ .order) (s′ .levels) d (s′ .wets)
-      ≡ onto (liftedNetwork tile water r) (sixLists (s .receivers) basins (s .order) (s .levels) (s .stack) (s .wets))
+      ≡ onto (liftedNetworkIn M tile water) (sixLists (s .receivers) basins (s .order) (s .levels) (s .stack) (s .wets))
   unfolding liftedNetwork filled
   worked basins water k z f j =
       let n : ℕ = length heights in
-      let W = walked-whole tile r (K .inside .drains) (λ c h. T .whole c) P v in
       sixLists-same
-      (W .receivers-are)
+      (v .receivers-are)
       f
       (v .order-is)
       (v .levels-are)
       (j ∙ ap (λ (m : ℕ). filled (drainage tile water r) m (s′ .stack)) z ∙ filled-over (drainage tile water r) n (s′ .stack) (s .stack) (v .past))
-      (W .wets-are)
+      (v .wets-are)
+      ∙ ap (λ (net : Network ℕ). onto net (sixLists (s .receivers) basins (s .order) (s .levels) (s .stack) (s .wets)))
+      (sym (manner-network M tile (T .lawful) water))
 
 -- masks that say the first receivers, with the chosen pairs added, are the links of the network
 module _ (N : Neighbours) {w : ℕ} {heights marks labels links : List ℕ} (K : Linkable (ruleBy N) w heights marks labels links) where

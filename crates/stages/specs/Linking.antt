@@ -1,31 +1,22 @@
 -- What the stages of the network hand on to each other, over any rule.
 -- Assumes nothing.
-use mathlib.Core.Bool.{true}
 use mathlib.Core.List.{List}
 use mathlib.Core.Path.{_≡_}
 use Prim.Native.Nat.{ℕ, _≤_}
 use lib.ListN.{length}
 use Rattle.grid.specs.Masks.{joined, Masks}
-use Rattle.grid.specs.Window.{around, IsRule}
+use Rattle.grid.specs.Window.{around}
 use Rattle.lists.specs.Lists.{filled, tab}
 use Rattle.rules.specs.Carving.{receivers}
 use Rattle.rules.specs.FirstWays.{basin, firstReceiver}
 use Rattle.rules.specs.Land.{Rule, ruleBy}
 use Rattle.rules.specs.Links.{Linkage}
 use Rattle.rules.specs.NodeLabels.{labelOf}
-use Rattle.rules.specs.Tile.{Tile, tileLand}
-use Rattle.rules.specs.Way.{Lawful}
+use Rattle.rules.specs.Tile.{LawfulTile, tileLand}
 use Rattle.walk.specs.Walk.{Margin}
 use Rattle.grid.specs.declared.Neighbours.{Neighbours}
 
--- a rule, and a lawful tile without holes
-pub record LawfulTile (R : Rule) (w : ℕ) (heights marks : List ℕ) : Type 0 where
-  pub is-rule : IsRule (R .places)
-  pub tile : Tile w heights marks
-  pub lawful : Lawful (tileLand R w heights marks)
-  pub whole : (c : ℕ) → tileLand R w heights marks .solid c ≡ true
-
--- such a tile, its labels, and the masks of its first receivers
+-- a lawful tile, its labels, and the masks of its first receivers
 pub record Linkable (R : Rule) (w : ℕ) (heights marks labels links : List ℕ) : Type 0 where
   pub land : LawfulTile R w heights marks
   pub labels-are : labels ≡ tab (length heights) (labelOf (tileLand R w heights marks))

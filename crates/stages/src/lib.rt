@@ -7,14 +7,13 @@ ghost use Rattle.grid.specs.Masks.{joined, maskOf};
 ghost use Rattle.grid.specs.Window.{around};
 ghost use Rattle.grid.specs.declared.Neighbours.the-variants.{Eight, Four};
 ghost use Rattle.lists.specs.Lists.{filled};
-ghost use Rattle.rules.specs.Carving as Carving;
 ghost use Rattle.rules.specs.FirstWays.{basin, firstReceiver};
 ghost use Rattle.rules.specs.Land.{ruleBy};
-ghost use Rattle.rules.specs.Network.{liftedNetwork};
+ghost use Rattle.rules.specs.Network.{liftedNetworkIn};
 ghost use Rattle.rules.specs.SixLists.{Holds, onto, sixLists};
-ghost use Rattle.rules.specs.Tile.{Tile, tileLand};
+ghost use Rattle.rules.specs.Tile.{LawfulTile, Tile, tileLand};
 ghost use Rattle.squares.specs.Listing.{pairsFor};
-ghost use Rattle.stages.specs.Linking.{CellsLinked, LawfulTile, Linkable, LinksFound, PassesLinked};
+ghost use Rattle.stages.specs.Linking.{CellsLinked, Linkable, LinksFound, PassesLinked};
 use basins::basin_numbers;
 use drainage::drain;
 use first_receivers::first_receivers;
@@ -22,8 +21,9 @@ use first_receivers::weights;
 use grid::Neighbours;
 use links::link_leads;
 use links::link_pairs;
+use manners::walk_by;
 use passes::choose_pairs;
-use walk::walk_links;
+use rules::Manner;
 
 // Rule 1: first receivers, and the links with them as masks. Work space: 4 KB.
 fn find_first(
@@ -214,10 +214,11 @@ pub fn link_sides(w: usize, heights: &[u32], marks: &[u8], basins: &mut [u16], l
     find_side_links(w, heights, marks, basins, &mut links[65..4161]);
 }
 
-// The network of a tile with an outlet, levels lifted. The list that drainage is to stand in is the walk's work space; besides it: 4 KB,
-// and that of the stages.
+// The network of a tile with an outlet in the manner asked for, levels lifted. The list that drainage is to stand in is the walk's work
+// space; besides it: 4 KB, and that of the stages.
 pub fn work_out(
     neighbours: Neighbours,
+    manner: Manner,
     w: usize,
     heights: &[u32],
     marks: &[u8],
@@ -239,16 +240,17 @@ pub fn work_out(
         let after =
         sixLists (now (receivers .exit)) (now (basins .exit)) (now (order .exit)) (now (levels .exit)) (now (drainage .exit))
         (now (wet .exit)) in
-        ⌜ after ≡ onto (liftedNetwork L (now (water .entry)) (Carving.receivers L)) before ⌝ }
+        ⌜ after ≡ onto (liftedNetworkIn manner L (now (water .entry))) before ⌝ }
 {
     let mut links = [0u8; 4226];
     link_cells(neighbours, w, heights, marks, basins, &mut links);
-    walk_links(
+    walk_by(
         neighbours,
+        manner,
         w,
         heights,
         marks,
-        &links,
+        &mut links,
         drainage,
         order,
         receivers,

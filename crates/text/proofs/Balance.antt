@@ -11,14 +11,15 @@ use Rattle.lists.proofs.Map.{map-same}
 use Rattle.lists.proofs.Range.{upto-below}
 use Rattle.lists.proofs.Tab.{tab-at, tab-is}
 use Rattle.lists.specs.Lists.{at, keep, sum, tab, upto}
-use Rattle.rules.proofs.Demand3Holds.{tile-demand-3}
+use Rattle.rules.proofs.NetworkDrains.{tile-demand-3}
 use Rattle.rules.specs.Carving.{receivers}
 use Rattle.rules.specs.FirstWays.{solidCells}
 use Rattle.rules.specs.Ground.{cellsOf, Drainable, Ground}
 use Rattle.rules.specs.Land.{Land, land4}
-use Rattle.rules.specs.Network.{drainage, liftedNetwork, network, networkBy, networkOf, outlets}
+use Rattle.rules.specs.Network.{drainage, liftedNetworkIn, network, networkBy, outlets}
 use Rattle.text.specs.Text.{outletDrainage}
 use Rattle.grid.specs.declared.Neighbours.the-variants.{Four}
+use Rattle.rules.specs.declared.Manner.the-variants.{Carve}
 
 -- the sum over a table's entries
 outlets-table : (f : ℕ → ℕ) (marks : List ℕ) (n : ℕ)
@@ -31,11 +32,11 @@ outlets-table f marks n =
 -- on the network of a ground that drains, with water for each cell
 pub sums-agree : (g : Ground) → Drainable g → length (g .water) ≡ cellsOf g
     → outletDrainage (network g .drainage) (g .marks) (cellsOf g) ≡ sum (g .water)
-unfolding networkBy networkOf liftedNetwork outlets solidCells
+unfolding networkBy liftedNetworkIn outlets solidCells
 sums-agree g o full =
     let L : Land = land4 g in
     let n : ℕ = cellsOf g in
     outlets-table (drainage L (g .water) (receivers L)) (g .marks) n
-    ∙ tile-demand-3 Four g o .rain-adds-up
+    ∙ tile-demand-3 Four Carve g o .rain-adds-up
     ∙ ap (λ (l : List ℕ). sum (map (at (g .water)) l)) (keep-all (λ c. true) (upto n) (λ c m. refl))
     ∙ ap sum (tab-is (at (g .water)) (g .water) n 0 full (λ k l. refl))

@@ -7,7 +7,7 @@ use Rattle.grid.specs.Neighbours.{steepness}
 use Rattle.rules.specs.Carving.{allBut, carved, farCell, firstWay, leadsOut, nearCell, outflows, previous, receiver, receivers}
 use Rattle.rules.specs.Chain.{join, joined, labels}
 use Rattle.rules.specs.FirstWays.{basin, firstReceiver, lowerNeighbours, neighbours, singular, singularOf, solidCells, steepestOf}
-use Rattle.rules.specs.Network.{above, drainage, givers, level, levelWithin, liftedNetwork, networkBy, networkOf, order}
+use Rattle.rules.specs.Network.{above, drainage, givers, level, levelWithin, liftedNetworkIn, networkBy, order}
 use Rattle.rules.specs.Network.{outlets, through, wet}
 use Rattle.rules.specs.Passes.{chosen, crossingHeight, crossings, crossingsAt, divides, less, lessThan, linked, node, passes}
 use Rattle.rules.specs.Passes.{sameBasins}
@@ -22,7 +22,7 @@ pub text-F :
     ∷ 48 ∷ 32 ∷ 49 ∷ 32 ∷ 52 ∷ 32 ∷ 50 ∷ 10
     ∷ 49 ∷ 32 ∷ 49 ∷ 32 ∷ 52 ∷ 32 ∷ 53 ∷ 10
     ∷ 111 ∷ 117 ∷ 116 ∷ 32 ∷ 53 ∷ 32 ∷ 111 ∷ 102 ∷ 32 ∷ 53 ∷ 10 ∷ []
-unfolding networkBy networkOf liftedNetwork solidCells neighbours lowerNeighbours steepness steepestOf firstReceiver singular
+unfolding networkBy liftedNetworkIn solidCells neighbours lowerNeighbours steepness steepestOf firstReceiver singular
     singularOf basin divides crossingsAt crossings crossingHeight less sameBasins passes node linked join labels
     joined lessThan chosen allBut farCell nearCell leadsOut outflows firstWay previous carved receiver receivers
     levelWithin level givers above outlets order through drainage wet

@@ -13,3 +13,4 @@ pub mod Settled
 pub mod Turns
 pub mod Wholes
 pub mod OneOutcome
+pub mod LinkMargins

@@ -49,8 +49,10 @@ abbrev pub LinksWalked : Rule → (w : ℕ) (heights marks links : List ℕ) (be
 LinksWalked R w heights marks links before after =
     (r : List ℕ) → Margin R w heights marks links r → Walked (tileLand R w heights marks) r before after
 
--- what that is where no cell is a hole: every cell stands in the order
+-- what that is where no cell is a hole: every cell stands in the order, and each list has every cell's entry
 pub record WalkedWhole (L : Land) (r : List ℕ) (s s′ : Lent) : Type 0 where
-  pub order-has : length (order L r) ≡ L .cells
+  pub order-is : s′ .order ≡ overwrite (order L r) (s .order)
   pub receivers-are : s′ .receivers ≡ overwrite r (s .receivers)
+  pub levels-are : s′ .levels ≡ filled (level L r) (L .cells) (s .levels)
   pub wets-are : s′ .wets ≡ filled (wet L r) (L .cells) (s .wets)
+  pub past : drop (L .cells) (s′ .stack) ≡ drop (L .cells) (s .stack)

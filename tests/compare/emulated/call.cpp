@@ -1,8 +1,8 @@
 // The C calls behind a pipe, for machines that can't link the libraries: reads calls on standard input, makes each of them, and writes
 // what became of it on standard output. The emulator runs this program, and the comparison is at the other end of both pipes.
 //
-// A call: which one, 0 for the network, 1 for the lakes and 2 for the network over the neighbours asked for; how many of these; and the
-// lengths of the ground and of the room (4 bytes each, little-endian), then the bytes of both.
+// A call: which one, 0 for the network, 1 for the lakes and 2 for the network over the neighbours and in the manner asked for; how many
+// neighbours; which manner; and the lengths of the ground and of the room (4 bytes each, little-endian), then the bytes of both.
 // Its outcome: the answer, 1 if every byte that wasn't lent for writing is as it was and 0 if not (4 bytes each), and the bytes of the
 // room. The end of the input ends the program.
 #include <algorithm>
@@ -18,11 +18,12 @@
 
 namespace {
 
-using Call = std::uint32_t (*)(std::uint32_t, const std::uint8_t*, std::size_t, std::uint8_t*, std::size_t);
+using Call = std::uint32_t (*)(std::uint32_t, std::uint32_t, const std::uint8_t*, std::size_t, std::uint8_t*, std::size_t);
 
-// A call that isn't told how many neighbours are asked for.
+// A call that isn't told what is asked for.
 template <auto call>
-std::uint32_t untold(std::uint32_t, const std::uint8_t* ground, std::size_t ground_len, std::uint8_t* room, std::size_t room_len) {
+std::uint32_t untold(std::uint32_t, std::uint32_t, const std::uint8_t* ground, std::size_t ground_len, std::uint8_t* room,
+                     std::size_t room_len) {
     return call(ground, ground_len, room, room_len);
 }
 
@@ -76,19 +77,20 @@ struct Lent {
 
 int main() {
     for (std::size_t turn = 0;; ++turn) {
-        std::uint8_t head[16];
+        std::uint8_t head[20];
         take(head, true);
         const std::uint32_t which = number_in(std::span(head).first(4));
         if (which >= std::size(calls)) return 1;
         const std::uint32_t neighbours = number_in(std::span(head).subspan(4, 4));
-        Lent ground(number_in(std::span(head).subspan(8, 4)), turn);
+        const std::uint32_t manner = number_in(std::span(head).subspan(8, 4));
+        Lent ground(number_in(std::span(head).subspan(12, 4)), turn);
         Lent room(number_in(std::span(head).last(4)), turn / 8);
         take(ground.record(), false);
         take(room.record(), false);
         const std::vector<std::uint8_t> ground_before = ground.bytes;
         // Watched bytes follow even an empty record, so neither pointer is null.
         const std::uint32_t answer =
-            calls[which](neighbours, ground.record().data(), ground.record().size(), room.record().data(), room.record().size());
+            calls[which](neighbours, manner, ground.record().data(), ground.record().size(), room.record().data(), room.record().size());
         give_number(answer);
         give_number(ground.bytes == ground_before && room.margins_kept() ? 1 : 0);
         give(room.record());

@@ -8,7 +8,7 @@ usage: compare [--seed N] [--cases N] [--progress] [--name-each]
                [--exhaustive | --drain PROGRAM | --follow PROGRAM | --lakes PROGRAM | --mutants]
   --seed N         another seed gives other records (1)
   --cases N        how many networks to compare; for each hundred of them there are 30 lists of
-                   lakes and 140 networks over the neighbours asked for;
+                   lakes and 240 networks over the neighbours and in the manner asked for;
                    with --drain, --follow or --lakes how many inputs
   --progress       say on the error output how far the run is
   --name-each      name each record before it is tried, to find one that ends the program

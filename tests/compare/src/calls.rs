@@ -4,21 +4,21 @@ use second::ground::Ground;
 use second::lake_list::LAKE;
 use second::neighbours::Neighbours;
 
+use crate::asked::Asked;
 use crate::cases::{self, Cases};
-use crate::kinds::{Kind, OF_COUNT, OF_DEPTH, OF_GROUND};
+use crate::kinds::{Kind, OF_COUNT, OF_DEPTH, OF_GROUND, OF_MANNER};
 use crate::library::Libraries;
 use crate::{demand3, lake_laws};
 
-/// A call as the comparison makes it: the neighbours asked for, a ground record and a room in, one
-/// number back.
-pub type Made<'a> = dyn Fn(u32, &[u8], &mut [u8]) -> u32 + 'a;
+/// A call as the comparison makes it: what is asked for, a ground record and a room in, one number back.
+pub type Made<'a> = dyn Fn(Asked, &[u8], &mut [u8]) -> u32 + 'a;
 
 /// One of the calls.
 pub struct Call {
     /// Its name in the header.
     pub name: &'static str,
-    /// Makes it in a set of libraries. One that isn't told the neighbours passes over them.
-    pub make: fn(&Libraries, u32, &[u8], &mut [u8]) -> u32,
+    /// Makes it in a set of libraries. One that isn't told what is asked for passes over it.
+    pub make: fn(&Libraries, Asked, &[u8], &mut [u8]) -> u32,
     /// The records and rooms that it is tried with.
     pub cases: Cases,
     /// How many cases it has for a hundred that are asked for.
@@ -42,8 +42,8 @@ impl Call {
     pub fn of<'a>(
         &'a self,
         libraries: &'a Libraries,
-    ) -> impl Fn(u32, &[u8], &mut [u8]) -> u32 + 'a {
-        |neighbours, ground, room| (self.make)(libraries, neighbours, ground, room)
+    ) -> impl Fn(Asked, &[u8], &mut [u8]) -> u32 + 'a {
+        |asked, ground, room| (self.make)(libraries, asked, ground, room)
     }
 
     pub fn kinds(&self) -> impl Iterator<Item = &'static Kind> {
@@ -82,15 +82,15 @@ pub const LAKES: Call = Call {
     examples: include_str!("../../vectors/lakes.txt"),
 };
 
-/// The network of a ground record over the neighbours asked for.
+/// The network of a ground record over the neighbours and in the manner asked for.
 pub const NETWORK_BY: Call = Call {
     name: "askvimur_network_by",
-    make: |libraries, neighbours, ground, room| {
-        (libraries.askvimur_network_by)(neighbours, ground, room)
+    make: |libraries, Asked { neighbours, manner }, ground, room| {
+        (libraries.askvimur_network_by)(neighbours, manner, ground, room)
     },
     cases: cases::NETWORK_BY,
-    share: 140,
-    kinds: &[&OF_GROUND, &OF_COUNT],
+    share: 240,
+    kinds: &[&OF_GROUND, &OF_COUNT, &OF_MANNER],
     examples: include_str!("../../vectors/network_by.txt"),
     ..NETWORK
 };

@@ -1,43 +1,44 @@
-//! Cases: a seed and an index give one record, and the neighbours and the rooms that it is tried with.
+//! Cases: a seed and an index give one record, and what is asked for and the rooms that it is tried with.
 
 use second::lake_list::LAKE;
 use second::{network_record, record};
 
+use crate::asked::{self, Asked};
 use crate::chance::Chance;
-use crate::counts;
 use crate::damage::{Damage, Damaged, DAMAGES, LAKE_DAMAGES};
 use crate::diagonal_families::DIAGONAL_FAMILIES;
 use crate::families::{Family, FAMILIES};
 use crate::lake_families::LAKE_FAMILIES;
+use crate::sheet_families::SHEET_FAMILIES;
 
 /// Where the records of a call come from, and what they are tried with.
 pub struct Cases {
     families: &'static [&'static [Family]],
     damages: &'static [&'static [Damage]],
-    /// How many neighbours are asked for with a record.
-    asked: fn(&mut Chance) -> u32,
+    /// What is asked for with a record.
+    asked: fn(&mut Chance) -> Asked,
     rooms: fn(&mut Chance, &Damaged) -> Vec<usize>,
     /// How many rooms that gives for each record.
     pub rooms_each: usize,
-    /// The counts of neighbours that can be asked for.
-    pub counts: &'static [u32],
+    /// All that can be asked for.
+    pub right: &'static [Asked],
 }
 
 /// For the network: room for a network record.
 pub const NETWORK: Cases = Cases {
     families: &[&FAMILIES],
     damages: &[&DAMAGES],
-    asked: |_| 4,
+    asked: |_| asked::DOCUMENT_01,
     rooms: network_rooms,
     rooms_each: 4,
-    counts: &[4],
+    right: &[asked::DOCUMENT_01],
 };
 
-/// For the network over the neighbours asked for.
+/// For the network over the neighbours and in the manner asked for.
 pub const NETWORK_BY: Cases = Cases {
-    families: &[&FAMILIES, &DIAGONAL_FAMILIES],
-    asked: counts::any,
-    counts: &counts::RIGHT,
+    families: &[&FAMILIES, &DIAGONAL_FAMILIES, &SHEET_FAMILIES],
+    asked: asked::any,
+    right: &asked::RIGHT,
     ..NETWORK
 };
 
@@ -45,10 +46,10 @@ pub const NETWORK_BY: Cases = Cases {
 pub const LAKES: Cases = Cases {
     families: &[&FAMILIES, &LAKE_FAMILIES],
     damages: &[&DAMAGES, &LAKE_DAMAGES],
-    asked: |_| 4,
+    asked: |_| asked::DOCUMENT_01,
     rooms: lakes_rooms,
     rooms_each: 6,
-    counts: &[4],
+    right: &[asked::DOCUMENT_01],
 };
 
 /// One generated record. A call with one of its rooms is what the run counts as a case.
@@ -57,8 +58,8 @@ pub struct Specimen {
     pub seed: u64,
     pub index: u64,
     pub record: Vec<u8>,
-    /// How many neighbours are asked for, by a call that is told so.
-    pub neighbours: u32,
+    /// What is asked for, by a call that is told so.
+    pub asked: Asked,
     pub rooms: Vec<usize>,
 }
 
@@ -84,7 +85,7 @@ impl Cases {
             index,
             rooms: (self.rooms)(&mut chance, &made),
             record: made.record,
-            neighbours: (self.asked)(&mut chance),
+            asked: (self.asked)(&mut chance),
         }
     }
 }
@@ -126,6 +127,8 @@ fn lakes_rooms(chance: &mut Chance, made: &Damaged) -> Vec<usize> {
 #[cfg(test)]
 mod tests {
     use super::*;
+    use second::manner::Manner;
+    use second::neighbours::Neighbours;
     use std::collections::HashMap;
 
     #[test]
@@ -134,7 +137,7 @@ mod tests {
             for index in 0..200 {
                 let (one, other) = (cases.specimen(7, index), cases.specimen(7, index));
                 assert_eq!(one.record, other.record);
-                assert_eq!(one.neighbours, other.neighbours);
+                assert_eq!(one.asked, other.asked);
                 assert_eq!(one.rooms, other.rooms);
                 assert_eq!(one.rooms.len(), cases.rooms_each);
             }
@@ -162,19 +165,21 @@ mod tests {
         }
     }
 
-    /// Half of the records of each family come with 8 neighbours, a sixth with 4, the others with counts
-    /// that can't be asked for.
+    /// Each family comes with all that can be asked for, with a wrong count, a wrong manner, and both.
     #[test]
-    fn every_family_comes_with_every_kind_of_count() {
-        let mut times: HashMap<(&str, Option<u32>), u32> = HashMap::new();
-        for index in 0..37 * 120 {
+    fn every_family_comes_with_every_kind_of_question() {
+        let mut times: HashMap<(&str, Option<Asked>, bool, bool), u32> = HashMap::new();
+        for index in 0..45 * 480 {
             let specimen = NETWORK_BY.specimen(3, index);
-            let right = Some(specimen.neighbours).filter(|count| counts::RIGHT.contains(count));
-            *times.entry((specimen.family, right)).or_default() += 1;
+            let Asked { neighbours, manner } = specimen.asked;
+            let right = Some(specimen.asked).filter(|asked| asked::RIGHT.contains(asked));
+            let (count, manner) = (Neighbours::asked_for(neighbours), Manner::asked_for(manner));
+            let kind = (specimen.family, right, count.is_ok(), manner.is_ok());
+            *times.entry(kind).or_default() += 1;
         }
-        assert_eq!(times.len(), 37 * 3);
+        assert_eq!(times.len(), 45 * 7);
         for (kind, times) in times {
-            assert!(times >= 8, "{kind:?}: {times}");
+            assert!(times >= 6, "{kind:?}: {times}");
         }
     }
 }

@@ -3,7 +3,6 @@
 
 use std::time::Instant;
 
-use second::neighbours::Neighbours;
 use second::record;
 
 use crate::calls::{Call, Made};
@@ -11,6 +10,7 @@ use crate::cases::Specimen;
 use crate::difference::{first_differing_byte, Difference};
 use crate::lending::{Lent, WATCHED};
 use crate::library::SECOND;
+use crate::manner_laws;
 use crate::tally::Tally;
 
 /// Tries a record with each of its rooms. The first difference is enough.
@@ -38,19 +38,19 @@ fn compare_with_room(
     (turn, room): (usize, usize),
     tally: &mut Tally,
 ) -> Option<Difference> {
-    let neighbours = specimen.neighbours;
+    let asked = specimen.asked;
     let lent = Lent::new(&specimen.record, room, specimen.index);
     let (mut found, mut wanted) = (lent.clone(), lent.clone());
     let start = Instant::now();
-    let answer = found.call(|ground, room| library(neighbours, ground, room));
+    let answer = found.call(|ground, room| library(asked, ground, room));
     let between = Instant::now();
-    let wanted_answer = wanted.call(|ground, room| (call.make)(&SECOND, neighbours, ground, room));
+    let wanted_answer = wanted.call(|ground, room| (call.make)(&SECOND, asked, ground, room));
     let times = (between - start, between.elapsed());
     tally.count(specimen, room, wanted_answer, times);
     let what = disagreement(call, answer, &found, wanted_answer, &wanted)
         .or_else(|| broken_promise(call, answer, &found, &lent))
         .or_else(|| match turn {
-            0 => wrong_by_brute_force(call, answer, &found, specimen),
+            0 => wrong_by_brute_force(call, library, answer, &found, specimen),
             _ => None,
         })?;
     Some(Difference {
@@ -58,7 +58,7 @@ fn compare_with_room(
         family: specimen.family,
         seed: specimen.seed,
         index: specimen.index,
-        neighbours,
+        asked,
         room,
         answer,
         wanted: wanted_answer,
@@ -121,9 +121,10 @@ fn altered_ground(byte: usize, lent: &Lent) -> String {
     format!("{place} the ground record is altered")
 }
 
-/// What is wrong with what an accepted call has written.
+/// What is wrong with what an accepted call has written, by itself and beside the other manner's.
 fn wrong_by_brute_force(
     call: &Call,
+    library: &Made,
     answer: u32,
     found: &Lent,
     specimen: &Specimen,
@@ -131,11 +132,11 @@ fn wrong_by_brute_force(
     if answer >= 65_536 {
         return None;
     }
-    let neighbours = Neighbours::asked_for(specimen.neighbours);
-    match (neighbours, record::read(&specimen.record)) {
-        (Ok(neighbours), Ok(ground)) => {
+    match (specimen.asked.judged(), record::read(&specimen.record)) {
+        (Ok((neighbours, _)), Ok(ground)) => {
             let written = found.written((call.written)(answer));
-            let judged = (call.judge)(neighbours, &ground, written);
+            let judged = (call.judge)(neighbours, &ground, written)
+                .and_then(|()| manner_laws::judge(library, specimen, written));
             judged.err().map(|wrong| format!("by brute force: {wrong}"))
         }
         _ => Some("what should be refused is accepted".to_string()),

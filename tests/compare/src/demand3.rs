@@ -1,7 +1,7 @@
 //! Demand 3 by brute force, on nothing but the ground, the neighbours asked for and the bytes that came
-//! back. Every way reaches an outlet, every level is the least that can be, and no water is lost.
-//! Rule 10 is judged with it: a cell is wet exactly if every way out climbs above its ground. So is a
-//! law across counts: no level with 8 neighbours is above that with 4.
+//! back, in whichever manner. Every way reaches an outlet, every level is the least that can be, and no
+//! water is lost. Rule 10 is judged with it: a cell is wet exactly if every way out climbs above its
+//! ground. So is a law across counts: no level with 8 neighbours is above that with 4.
 
 use std::cmp::Reverse;
 use std::collections::BinaryHeap;
@@ -192,20 +192,8 @@ fn judge_drainage(ground: &Ground, returned: &Returned) -> Result<(), String> {
 #[cfg(test)]
 mod tests {
     use super::*;
+    use crate::families::testing::sample_g as ground;
     use second::ground::Size;
-
-    /// Sample G.
-    fn ground() -> Ground {
-        Ground {
-            size: Size {
-                width: 6,
-                height: 1,
-            },
-            heights: vec![7, 1, 3, 2, 5, 0],
-            marks: vec![1, 0, 0, 0, 0, 1],
-            water: vec![1; 6],
-        }
-    }
 
     fn network(receivers: [u16; 6], levels: [i32; 6], drainage: [u32; 6]) -> Vec<u8> {
         let mut bytes: Vec<u8> = receivers

@@ -111,6 +111,7 @@ mod tests {
     use crate::families::testing;
     use second::first_receivers::{first_receivers, steepness};
     use second::ground::Cell;
+    use second::manner::Manner;
     use second::neighbours::Neighbours;
     use second::network::network_by;
     use std::collections::HashMap;
@@ -129,7 +130,8 @@ mod tests {
     fn diagonals_make_a_difference() {
         for family in &DIAGONAL_FAMILIES {
             let differs = |ground: &&Ground| {
-                let [four, eight] = Neighbours::BOTH.map(|asked| network_by(asked, ground));
+                let [four, eight] = Neighbours::BOTH
+                    .map(|neighbours| network_by(neighbours, Manner::Carve, ground));
                 four.receivers != eight.receivers && four.levels != eight.levels
             };
             let differing = tiles(family.name, 200).iter().filter(differs).count();

@@ -2,6 +2,7 @@
 
 use std::fmt;
 
+use crate::asked::Asked;
 use crate::calls::Call;
 
 /// Everything needed to find the case again and to see what went wrong.
@@ -10,7 +11,7 @@ pub struct Difference {
     pub family: &'static str,
     pub seed: u64,
     pub index: u64,
-    pub neighbours: u32,
+    pub asked: Asked,
     pub room: usize,
     pub answer: u32,
     pub wanted: u32,
@@ -24,14 +25,14 @@ impl fmt::Display for Difference {
             family,
             seed,
             index,
-            neighbours,
+            asked,
             room,
             ..
         } = self;
         writeln!(
             to,
             "difference: {name}, seed {seed}, family {family}, index {index}, \
-             neighbours {neighbours}, room {room}"
+             {asked}, room {room}"
         )?;
         writeln!(to, "  library:        {}", in_words(self.answer, meaning))?;
         writeln!(to, "  second program: {}", in_words(self.wanted, meaning))?;

@@ -3,6 +3,7 @@
 use second::ground::{Ground, Size};
 use second::record;
 
+use crate::asked::Asked;
 use crate::calls::{Call, Made};
 use crate::cases::Specimen;
 use crate::comparison::compare;
@@ -17,7 +18,7 @@ pub const TILES: u64 = 19_683 * 9;
 
 /// How many cases they make for a call.
 pub fn cases(call: &Call) -> u64 {
-    TILES * call.cases.counts.len() as u64
+    TILES * call.cases.right.len() as u64
 }
 
 /// The tile with this number, 0 to 177,146.
@@ -45,25 +46,25 @@ pub fn tile(number: u64) -> Ground {
 /// Room for the network record of such a tile. No list of its lakes is as long.
 const ROOM: usize = 15 * 9 + 28;
 
-/// Compares one of these tiles, with all neighbours that can be asked for.
+/// Compares one of these tiles, with all that can be asked for.
 pub fn compare_tile(
     call: &'static Call,
     library: &Made,
     number: u64,
     tally: &mut Tally,
 ) -> Option<Difference> {
-    let compare = |&neighbours: &u32| {
+    let compare = |&asked: &Asked| {
         let specimen = Specimen {
             family: NAME,
             seed: 0,
             index: number,
             record: record::bytes(&tile(number)),
-            neighbours,
+            asked,
             rooms: vec![ROOM],
         };
         compare(call, library, &specimen, tally)
     };
-    call.cases.counts.iter().find_map(compare)
+    call.cases.right.iter().find_map(compare)
 }
 
 #[cfg(test)]

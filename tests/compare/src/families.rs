@@ -156,8 +156,21 @@ pub fn water(chance: &mut Chance, size: Size) -> Vec<u16> {
 /// What the tests of every list of families share.
 #[cfg(test)]
 pub mod testing {
-    use super::{Chance, Family, Ground};
+    use super::{Chance, Family, Ground, Size};
     use second::record;
+
+    /// Document 01's sample G.
+    pub fn sample_g() -> Ground {
+        Ground {
+            size: Size {
+                width: 6,
+                height: 1,
+            },
+            heights: vec![7, 1, 3, 2, 5, 0],
+            marks: vec![1, 0, 0, 0, 0, 1],
+            water: vec![1; 6],
+        }
+    }
 
     /// So many tiles of a family of the list.
     pub fn tiles(families: &[Family], name: &str, count: u64) -> Vec<Ground> {

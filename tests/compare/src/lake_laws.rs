@@ -76,20 +76,8 @@ fn judge_sums(ground: &Ground, points: &[i32], outermost: &[&Returned]) -> Resul
 #[cfg(test)]
 mod tests {
     use super::*;
-    use second::ground::Size;
-
-    /// Sample G, whose lake splits into two.
-    fn ground() -> Ground {
-        Ground {
-            size: Size {
-                width: 6,
-                height: 1,
-            },
-            heights: vec![7, 1, 3, 2, 5, 0],
-            marks: vec![1, 0, 0, 0, 0, 1],
-            water: vec![1; 6],
-        }
-    }
+    // Its lake splits into two.
+    use crate::families::testing::sample_g as ground;
 
     fn list() -> Vec<u8> {
         let mut list = vec![0; 48];

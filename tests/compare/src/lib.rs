@@ -2,11 +2,11 @@
 //! and every byte that either of them leaves; and the programs' texts on generated inputs.
 
 pub mod arguments;
+pub mod asked;
 pub mod calls;
 pub mod cases;
 pub mod chance;
 pub mod comparison;
-pub mod counts;
 pub mod damage;
 pub mod demand3;
 pub mod diagonal_families;
@@ -21,6 +21,7 @@ pub mod lending;
 pub mod library;
 #[cfg(feature = "linked")]
 mod linked;
+pub mod manner_laws;
 pub mod mutants;
 pub mod outlets;
 #[cfg(not(feature = "linked"))]
@@ -29,5 +30,6 @@ pub mod program_run;
 pub mod questions;
 pub mod record_runs;
 pub mod reliefs;
+pub mod sheet_families;
 pub mod tally;
 pub mod worked;

@@ -3,8 +3,8 @@
 /// A C call over slices: ground record in, a room to write in, one number back.
 pub type Library = fn(&[u8], &mut [u8]) -> u32;
 
-/// A C call that is told first how many neighbours are asked for.
-pub type LibraryBy = fn(u32, &[u8], &mut [u8]) -> u32;
+/// A C call that is told first how many neighbours are asked for, and then in which manner.
+pub type LibraryBy = fn(u32, u32, &[u8], &mut [u8]) -> u32;
 
 /// The calls of one library, each under its name in the header.
 #[derive(Clone, Copy)]

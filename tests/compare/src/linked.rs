@@ -23,6 +23,7 @@ extern "C" {
 
     fn askvimur_network_by(
         neighbours: u32,
+        manner: u32,
         ground: *const u8,
         ground_len: usize,
         network: *mut u8,
@@ -51,12 +52,12 @@ pub const LIBRARIES: Libraries = Libraries {
             },
         )
     },
-    askvimur_network_by: |neighbours, ground, network| {
+    askvimur_network_by: |neighbours, manner, ground, network| {
         handed_over(
             ground,
             network,
             |ground, ground_len, network, network_len| unsafe {
-                askvimur_network_by(neighbours, ground, ground_len, network, network_len)
+                askvimur_network_by(neighbours, manner, ground, ground_len, network, network_len)
             },
         )
     },

@@ -77,9 +77,9 @@ fn run_call(arguments: &Arguments, call: &'static Call) -> Tally {
     for index in 0..records {
         let specimen = call.cases.specimen(seed, index);
         if arguments.name_each {
-            let (family, neighbours) = (specimen.family, specimen.neighbours);
+            let (family, asked) = (specimen.family, specimen.asked);
             let name = call.name;
-            eprintln!("{name}, family {family}, index {index}, neighbours {neighbours}");
+            eprintln!("{name}, family {family}, index {index}, {asked}");
         }
         let difference = compare(call, &library, &specimen, &mut tally);
         print_difference(difference, &tally);

@@ -5,9 +5,9 @@
 /// A network call with some stages exchanged for wrong ones.
 macro_rules! with {
     ($($stage:ident: $wrong:expr),+ $(,)?) => {
-        |neighbours, ground, network| {
+        |known, ground, network| {
             let stages = $crate::mutants::Stages { $($stage: $wrong,)+ ..$crate::mutants::RIGHT };
-            $crate::mutants::call(&stages, neighbours, ground, network)
+            $crate::mutants::call(&stages, known, ground, network)
         }
     };
 }
@@ -19,13 +19,19 @@ macro_rules! mutants {
     };
 }
 
+#[macro_use]
+mod asking;
 mod counting;
 mod diagonals;
 pub mod following;
 mod judging;
 mod lake_stages;
 mod lakes;
+mod manners;
 mod network;
+mod sheet_stages;
+mod sheets;
+mod step;
 mod writing;
 
 use second::basins::{basins, Basins};
@@ -33,12 +39,15 @@ use second::carving::{carve, outflows, Outflow};
 use second::first_receivers::first_receivers;
 use second::flow::{drainage, levels, order, wet};
 use second::ground::{Cell, Ground, Size};
+use second::manner::Manner;
 use second::neighbours::Neighbours;
 use second::network::Network;
 use second::network_record;
 use second::passes::{chosen_passes, crossings, passes, Crossing};
 use second::refusal::Refusal;
+use second::sheet::sheet;
 
+use crate::asked::Asked;
 use crate::calls::{self, Call, Made};
 use crate::comparison::compare;
 use crate::tally::Tally;
@@ -53,8 +62,14 @@ pub struct Mutant<W> {
     pub wrong: W,
 }
 
-/// A network call once the count of neighbours has been judged, if it is told one.
-type NetworkCall = fn(Neighbours, &[u8], &mut [u8]) -> u32;
+/// What is asked for, once it has been judged.
+type Known = (Neighbours, Manner);
+
+/// A network call once what is asked for has been judged, if it is told so.
+type NetworkCall = fn(Known, &[u8], &mut [u8]) -> u32;
+
+/// A network call that judges what is asked for itself.
+type AskedCall = fn(Asked, &[u8], &mut [u8]) -> u32;
 
 /// A call, and every wrong library for it.
 pub type WrongCalls = (&'static Call, Vec<Mutant<Box<Made<'static>>>>);
@@ -63,13 +78,14 @@ pub type WrongCalls = (&'static Call, Vec<Mutant<Box<Made<'static>>>>);
 pub fn all() -> [WrongCalls; 3] {
     let networks = [network::MUTANTS, judging::MUTANTS, writing::MUTANTS].concat();
     let of_network = made(&networks, |wrong, _, ground, room| {
-        wrong(Neighbours::Four, ground, room)
+        wrong((Neighbours::Four, Manner::Carve), ground, room)
     });
     let of_lakes = made(lakes::MUTANTS, |wrong, _, ground, room| wrong(ground, room));
-    let mut of_network_by = made(&networks, count_judged);
-    of_network_by.extend(made(diagonals::MUTANTS, count_judged));
-    of_network_by.extend(made(counting::MUTANTS, |wrong, count, ground, room| {
-        wrong(count, ground, room)
+    let of_flow = [&networks, diagonals::MUTANTS, sheets::MUTANTS].concat();
+    let of_asking = [counting::MUTANTS, manners::MUTANTS].concat();
+    let mut of_network_by = made(&of_flow, judged_first);
+    of_network_by.extend(made(&of_asking, |wrong, asked, ground, room| {
+        wrong(asked, ground, room)
     }));
     [
         (&calls::NETWORK, of_network),
@@ -78,23 +94,23 @@ pub fn all() -> [WrongCalls; 3] {
     ]
 }
 
-/// Wrong libraries as the comparison makes their calls: given the count, the record and the room.
+/// Wrong libraries as the comparison makes their calls: given what is asked for, the record and the room.
 fn made<W: Copy + 'static>(
     mutants: &[Mutant<W>],
-    call: fn(W, u32, &[u8], &mut [u8]) -> u32,
+    call: fn(W, Asked, &[u8], &mut [u8]) -> u32,
 ) -> Vec<Mutant<Box<Made<'static>>>> {
     let made = |&Mutant { name, wrong }: &Mutant<W>| {
         let wrong: Box<Made> =
-            Box::new(move |count, ground, room| call(wrong, count, ground, room));
+            Box::new(move |asked, ground, room| call(wrong, asked, ground, room));
         Mutant { name, wrong }
     };
     mutants.iter().map(made).collect()
 }
 
-/// A network call with the count judged before it, as it should be.
-fn count_judged(call: NetworkCall, count: u32, ground: &[u8], room: &mut [u8]) -> u32 {
-    match Neighbours::asked_for(count) {
-        Ok(neighbours) => call(neighbours, ground, room),
+/// A network call with what is asked for judged before it, as it should be.
+fn judged_first(call: NetworkCall, asked: Asked, ground: &[u8], room: &mut [u8]) -> u32 {
+    match asked.judged() {
+        Ok(known) => call(known, ground, room),
         Err(refusal) => refusal.answer(),
     }
 }
@@ -132,6 +148,8 @@ struct Stages {
     chosen_passes: fn(&[Crossing], &Basins, &Ground) -> Vec<Crossing>,
     outflows: fn(&[Crossing], &Basins, &Ground) -> Vec<Option<Outflow>>,
     carve: Carve,
+    /// W-205's receivers, out of the levels of carving.
+    sheet: fn(Neighbours, &Ground, &[i32]) -> Vec<Cell>,
     order: fn(&[Cell]) -> Vec<Cell>,
     levels: fn(&[Cell], &[Cell], &Ground) -> Vec<i32>,
     drainage: fn(&[Cell], &Ground) -> Vec<u32>,
@@ -149,6 +167,7 @@ const RIGHT: Stages = Stages {
     chosen_passes,
     outflows,
     carve,
+    sheet,
     order,
     levels,
     drainage,
@@ -156,16 +175,16 @@ const RIGHT: Stages = Stages {
 };
 
 /// The C call with these stages.
-fn call(stages: &Stages, neighbours: Neighbours, record: &[u8], room: &mut [u8]) -> u32 {
+fn call(stages: &Stages, known: Known, record: &[u8], room: &mut [u8]) -> u32 {
     match (stages.judge)(record, room.len()) {
-        Ok(ground) => write(&stages.network(neighbours, &ground), ground.size, room),
+        Ok(ground) => write(&stages.network(known, &ground), ground.size, room),
         Err(refusal) => refusal.answer(),
     }
 }
 
 /// The C call as it should be.
-fn right(neighbours: Neighbours, record: &[u8], room: &mut [u8]) -> u32 {
-    call(&RIGHT, neighbours, record, room)
+fn right(known: Known, record: &[u8], room: &mut [u8]) -> u32 {
+    call(&RIGHT, known, record, room)
 }
 
 /// Writes as much of the record as there is room for.
@@ -178,16 +197,20 @@ fn write(network: &Network, size: Size, room: &mut [u8]) -> u32 {
 
 impl Stages {
     /// The network that these stages give.
-    fn network(&self, neighbours: Neighbours, ground: &Ground) -> Network {
+    fn network(&self, (neighbours, manner): Known, ground: &Ground) -> Network {
         let first_receivers = (self.first_receivers)(neighbours, ground);
         let basins = (self.basins)(&first_receivers);
         let crossings = (self.crossings)(neighbours, ground, &basins);
         let passes = (self.passes)(&crossings, &basins);
         let chosen = (self.chosen_passes)(&passes, &basins, ground);
         let outflows = (self.outflows)(&chosen, &basins, ground);
-        let receivers = (self.carve)(&first_receivers, &outflows);
+        let carved = (self.carve)(&first_receivers, &outflows);
+        let levels = (self.levels)(&carved, &(self.order)(&carved), ground);
+        let receivers = match manner {
+            Manner::Carve => carved,
+            Manner::Sheet => (self.sheet)(neighbours, ground, &levels),
+        };
         let mut order = (self.order)(&receivers);
-        let levels = (self.levels)(&receivers, &order, ground);
         // Cells on a ring are in no order, and the record still needs its length.
         order.resize(receivers.len(), Cell(0));
         Network {
@@ -210,13 +233,13 @@ mod tests {
     fn the_right_stages_are_not_caught() {
         let staged: [(_, &Made); 3] = [
             (&calls::NETWORK, &|_, ground, room| {
-                right(Neighbours::Four, ground, room)
+                right((Neighbours::Four, Manner::Carve), ground, room)
             }),
             (&calls::LAKES, &|_, ground, room| {
                 lake_stages::call(&lake_stages::RIGHT, ground, room)
             }),
-            (&calls::NETWORK_BY, &|count, ground, room| {
-                count_judged(right, count, ground, room)
+            (&calls::NETWORK_BY, &|asked, ground, room| {
+                judged_first(right, asked, ground, room)
             }),
         ];
         for (call, staged) in staged {

@@ -6,6 +6,7 @@ use std::io::{self, Read, Write};
 use std::process::{Child, ChildStdin, ChildStdout, Command, Stdio};
 use std::sync::{Mutex, OnceLock};
 
+use crate::asked::{asked, Asked};
 use crate::library::Libraries;
 
 /// The variable that names the program.
@@ -15,8 +16,8 @@ pub const LIBRARIES: Libraries = Libraries {
     description: "the C calls of libaskvimur.a and libaskvimur_service.a, behind a pipe",
     askvimur_network: |ground, network| called(NETWORK, NOT_ASKED, ground, network),
     askvimur_lakes: |ground, lakes| called(LAKES, NOT_ASKED, ground, lakes),
-    askvimur_network_by: |neighbours, ground, network| {
-        called(NETWORK_BY, neighbours, ground, network)
+    askvimur_network_by: |neighbours, manner, ground, network| {
+        called(NETWORK_BY, asked(neighbours, manner), ground, network)
     },
 };
 
@@ -25,8 +26,8 @@ const NETWORK: u32 = 0;
 const LAKES: u32 = 1;
 const NETWORK_BY: u32 = 2;
 
-/// What stands in the place of the neighbours for a call that isn't told them.
-const NOT_ASKED: u32 = 0;
+/// What stands in the place of what is asked for with a call that isn't told so.
+const NOT_ASKED: Asked = asked(0, 0);
 
 /// The running program and its two pipes.
 struct Pipe {
@@ -41,14 +42,14 @@ pub fn is_named() -> bool {
 }
 
 /// Makes the call there. A byte that is altered without having been lent ends the comparison.
-fn called(number: u32, neighbours: u32, ground: &[u8], room: &mut [u8]) -> u32 {
+fn called(number: u32, asked: Asked, ground: &[u8], room: &mut [u8]) -> u32 {
     static PIPE: OnceLock<Mutex<Pipe>> = OnceLock::new();
     let pipe =
         PIPE.get_or_init(|| Mutex::new(started().expect("the program behind the pipe starts")));
     let (answer, kept) = pipe
         .lock()
         .expect("no call before this one panicked")
-        .call([number, neighbours], ground, room)
+        .call([number, asked.neighbours, asked.manner], ground, room)
         .expect("the program behind the pipe answers");
     assert!(kept, "a byte that was not lent for writing is altered");
     answer
@@ -69,15 +70,11 @@ fn started() -> io::Result<Pipe> {
 
 impl Pipe {
     /// The answer, and whether every byte that was not lent for writing is as it was. The number of the
-    /// call and the neighbours asked for come first.
-    fn call(
-        &mut self,
-        [number, neighbours]: [u32; 2],
-        ground: &[u8],
-        room: &mut [u8],
-    ) -> io::Result<(u32, bool)> {
-        let mut call = Vec::with_capacity(16 + ground.len() + room.len());
-        for number in [number, neighbours, ground.len() as u32, room.len() as u32] {
+    /// call, the neighbours and the manner asked for come first.
+    fn call(&mut self, first: [u32; 3], ground: &[u8], room: &mut [u8]) -> io::Result<(u32, bool)> {
+        let mut call = Vec::with_capacity(20 + ground.len() + room.len());
+        let lengths = [ground.len() as u32, room.len() as u32];
+        for number in first.into_iter().chain(lengths) {
             call.extend(number.to_le_bytes());
         }
         call.extend_from_slice(ground);

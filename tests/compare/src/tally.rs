@@ -53,7 +53,7 @@ impl Tally {
             false => row.refused += 1,
         }
         for (kind, times) in self.call.kinds().zip(&mut self.kinds) {
-            *times += u64::from(kind.fits(answer, &specimen.record, room));
+            *times += u64::from(kind.fits(answer, specimen, room));
         }
     }
 

@@ -3,6 +3,7 @@
 
 use second::vectors::{read_all, Vector};
 
+use crate::asked::asked;
 use crate::calls::{Call, Made};
 
 /// How many examples of a call there are.
@@ -12,7 +13,9 @@ pub fn count(call: &Call) -> usize {
 
 /// The lines, counted from 1, that a library does not do as they say.
 pub fn wrong_lines(call: &Call, library: &Made) -> Vec<usize> {
-    let made = |line: &Vector, room: &mut [u8]| library(line.neighbours, &line.input, room);
+    let made = |line: &Vector, room: &mut [u8]| {
+        library(asked(line.neighbours, line.manner), &line.input, room)
+    };
     let examples = read_all(call.examples);
     let wrong = |(_, example): &(usize, &Vector)| !example.holds(made);
     let lines = examples.iter().enumerate().filter(wrong);
@@ -22,12 +25,13 @@ pub fn wrong_lines(call: &Call, library: &Made) -> Vec<usize> {
 #[cfg(test)]
 mod tests {
     use super::*;
+    use crate::asked::CARVE;
     use crate::calls::{ALL, LAKES, NETWORK_BY};
     use crate::library::SECOND;
 
     #[test]
     fn the_second_program_does_as_they_say() {
-        assert_eq!(ALL.map(count), [0, 240, 117]);
+        assert_eq!(ALL.map(count), [0, 240, 240]);
         for call in ALL {
             assert_eq!(wrong_lines(call, &call.of(&SECOND)), [0; 0]);
         }
@@ -42,5 +46,12 @@ mod tests {
     fn what_does_not_look_at_the_neighbours_does_not() {
         let always_4: &Made = &|_, ground, room| second::call(ground, room);
         assert!(wrong_lines(&NETWORK_BY, always_4).len() > 20);
+    }
+
+    #[test]
+    fn what_does_not_look_at_the_manner_does_not() {
+        let always_carved: &Made =
+            &|asked, ground, room| second::network_by_call(asked.neighbours, CARVE, ground, room);
+        assert!(wrong_lines(&NETWORK_BY, always_carved).len() > 20);
     }
 }

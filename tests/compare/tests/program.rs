@@ -17,9 +17,10 @@ fn last_line(output: &Output) -> String {
 #[test]
 fn no_difference_gives_status_0() {
     let output = run(&["--cases", "400", "--seed", "9"]);
-    // 400 networks, 120 lists of lakes and 560 networks over the neighbours asked for; every 3 by 3 tile
-    // for all three, the last with both counts; and the worked examples of two.
-    let cases = 400 + 120 + 560 + 4 * 177_147 + 240 + 117;
+    // 400 networks, 120 lists of lakes and 960 networks over the neighbours and in the manner asked for;
+    // every 3 by 3 tile for all three, the last with both counts and in both manners; and the worked
+    // examples of two.
+    let cases = 400 + 120 + 960 + 6 * 177_147 + 240 + 240;
     let wanted = format!("compare: {cases} cases, 0 differences");
     assert_eq!(last_line(&output), wanted);
     assert_eq!(output.status.code(), Some(0));

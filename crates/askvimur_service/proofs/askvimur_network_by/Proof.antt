@@ -9,13 +9,13 @@ answer-for-c-requires : tie.Need-answer-for-c-requires
 answer-for-c-requires c κs =
     let at-call = c .before .before in
     let a = at-call .before .before .before .before .args in
-    counted-packable (a .neighbours) (a .ground .now) (a .network .now) (at-call .network-of-record .ensures)
+    counted-packable (a .neighbours) (a .manner) (a .ground .now) (a .network .now) (at-call .network-of-record .ensures)
 
 returns : tie.Need-returns
 returns c =
     let at-call = c .before .before .before in
     let a = at-call .before .before .before .before .args in
-    counted-packed (a .neighbours) (a .ground .now) (a .network .now) (at-call .network-of-record .ensures) (c .answer-for-c .ensures)
+    counted-packed (a .neighbours) (a .manner) (a .ground .now) (a .network .now) (at-call .network-of-record .ensures) (c .answer-for-c .ensures)
 
 pub askvimur-network-by-spec : {M : Type 1} → statement M
 askvimur-network-by-spec =

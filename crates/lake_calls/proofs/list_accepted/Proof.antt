@@ -19,9 +19,8 @@ use Rattle.network.proofs.Grounds.{good-tile, lifted-full, lifted-taken}
 use Rattle.network.proofs.Networks.{tile-is-land}
 use Rattle.rules.specs.Ground.{cellsOf, Ground, lifted}
 use Rattle.rules.specs.Land.{Land, rule4}
-use Rattle.rules.specs.Network.{liftedNetwork}
-use Rattle.rules.specs.Tile.{tileLand}
-use Rattle.stages.specs.Linking.{LawfulTile}
+use Rattle.rules.specs.Network.{liftedNetworkIn}
+use Rattle.rules.specs.Tile.{LawfulTile, tileLand}
 use Rattle.grid.specs.declared.Neighbours.the-variants.{Four}
 use Rattle.lake_calls.proofs.list_accepted.Statement.{statement}
 use Rattle.lake_calls.proofs.list_accepted.Tie as tie
@@ -60,7 +59,7 @@ lifting c = c .before .before .before .before
 
 read-here : (c : tie.After-tile-lakes) (water : List ℕ) → let g = groundWith (lifting c) water in
     Good g → ReadFound (tooDeepOn g) (lakesOn g) (c .tile-lakes .result) (c .tile-lakes .last .1 .1 .1 .0)
-unfolding levelsOn liftedNetwork
+unfolding levelsOn liftedNetworkIn
 read-here c water G =
     let g = groundWith (lifting c) water in
     let Found : Land → Type 0 = λ L. FoundIn L (levelsOn L) (c .tile-lakes .result) (c .tile-lakes .last .1 .1 .1 .0) in

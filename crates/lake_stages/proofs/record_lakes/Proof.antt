@@ -13,7 +13,7 @@ use Rattle.record_stages.proofs.LinkedRecord.{read-full, read-land, read-tile}
 use Rattle.record_stages.proofs.Reading.{heights-are, in-range-at}
 use Rattle.rules.specs.Ground.{lifted}
 use Rattle.rules.specs.Land.{Land}
-use Rattle.rules.specs.Network.{liftedNetwork}
+use Rattle.rules.specs.Network.{liftedNetworkIn}
 use Rattle.grid.specs.declared.Neighbours.the-variants.{Four}
 use Rattle.lake_stages.proofs.record_lakes.Statement.{statement}
 use Rattle.lake_stages.proofs.record_lakes.Tie as tie
@@ -69,7 +69,7 @@ tile-lakes-requires c κs =
     )
 
 returns : tie.Need-returns
-unfolding levelsOn liftedNetwork
+unfolding levelsOn liftedNetworkIn
 returns c =
     let at-tile = c .before .before in
     let at-lift = at-tile .before .before .before .before .before in

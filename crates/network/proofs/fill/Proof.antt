@@ -14,13 +14,11 @@ use Rattle.lists.specs.Lists.{overwrite}
 use Rattle.network.proofs.Grounds.{good-tile, lifted-full, lifted-taken}
 use Rattle.network.proofs.Networks.{levels-droppable, network-full, network-written, tile-is-land}
 use Rattle.rules.proofs.SixLists.{firstOf-onto}
-use Rattle.rules.specs.Carving.{receivers}
 use Rattle.rules.specs.Ground.{cellsOf, dropped, Ground, lifted}
 use Rattle.rules.specs.Land.{Land, ruleBy}
-use Rattle.rules.specs.Network.{liftedNetwork, liftedNetworkBy, Network}
+use Rattle.rules.specs.Network.{liftedNetworkBy, liftedNetworkIn, Network}
 use Rattle.rules.specs.SixLists.{Full, onto, sixLists}
-use Rattle.rules.specs.Tile.{tileLand}
-use Rattle.stages.specs.Linking.{LawfulTile}
+use Rattle.rules.specs.Tile.{LawfulTile, tileLand}
 use Rattle.network.proofs.fill.Statement.{statement}
 use Rattle.network.proofs.fill.Tie as tie
 
@@ -64,23 +62,27 @@ before c =
 
 abbrev after : tie.After-work-out → Network ℕ
 after c =
-    let lists = c .work-out .last .1 .1 .1 .1 .1 in
+    let lists = c .work-out .last .1 .1 .1 .1 .1 .1 in
     sixLists (lists .0) (lists .1 .0) (lists .1 .1 .0) (lists .1 .1 .1 .0) (lists .1 .1 .1 .1 .0) (lists .1 .1 .1 .1 .1 .0)
 
-worked : (c : tie.After-work-out) → after c ≡ onto (liftedNetworkBy (start (lifting c) .args .neighbours) (ground (lifting c))) (before c)
+worked : (c : tie.After-work-out)
+    → let a = start (lifting c) .args in after c ≡ onto (liftedNetworkBy (a .neighbours) (a .manner) (ground (lifting c))) (before c)
 worked c =
     let g = ground (lifting c) in
-    let net : Land → Network ℕ = λ L. onto (liftedNetwork L (g .water) (receivers L)) (before c) in
+    let net : Land → Network ℕ = λ L. onto (liftedNetworkIn (start (lifting c) .args .manner) L (g .water)) (before c) in
     c .work-out .ensures
     ∙ ap (λ (l : List ℕ). net (tileLand (ruleBy (start (lifting c) .args .neighbours)) (g .width) l (g .marks))) (heights-here (lifting c))
     ∙ ap net (tile-is-land (start (lifting c) .args .neighbours) g (good (lifting c)))
 
 levels-here : (c : tie.After-work-out)
-    → take (count (lifting c)) (after c .levels) ≡ liftedNetworkBy (start (lifting c) .args .neighbours) (ground (lifting c)) .levels
+    → let a = start (lifting c) .args in
+    take (count (lifting c)) (after c .levels) ≡ liftedNetworkBy (a .neighbours) (a .manner) (ground (lifting c)) .levels
 levels-here c =
     let at-lift = lifting c in
-    let net = liftedNetworkBy (start at-lift .args .neighbours) (ground at-lift) in
-    let full = subst (λ (k : ℕ). Full k net) (sym (counted at-lift)) (network-full (start at-lift .args .neighbours) (ground at-lift) (good at-lift)) in
+    let a = start at-lift .args in
+    let net = liftedNetworkBy (a .neighbours) (a .manner) (ground at-lift) in
+    let full =
+    subst (λ (k : ℕ). Full k net) (sym (counted at-lift)) (network-full (a .neighbours) (a .manner) (ground at-lift) (good at-lift)) in
     ap (λ (s : Network ℕ). s .levels) (firstOf-onto (count at-lift) net (before c) full (worked c))
 
 lift-heights-requires : tie.Need-lift-heights-requires
@@ -126,8 +128,8 @@ drop-levels-requires : tie.Need-drop-levels-requires
 drop-levels-requires c κs =
     let at-work = c .before .before .before .before .before .before .before .before .before .before .before .before .before in
     let at-lift = lifting at-work in
-    let f : count at-lift ≤ length (after at-work .levels) = omega (arith, few at-lift, at-work .work-out .kept .1 .1 .1 .1 .1 .1 .1 .1 .0) in
-    let droppable = levels-droppable (start at-lift .args .neighbours) (ground at-lift) (good at-lift) (levels-here at-work) in
+    let f : count at-lift ≤ length (after at-work .levels) = omega (arith, few at-lift, at-work .work-out .kept .1 .1 .1 .1 .1 .1 .1 .1 .1 .0) in
+    let droppable = levels-droppable (start at-lift .args .neighbours) (start at-lift .args .manner) (ground at-lift) (good at-lift) (levels-here at-work) in
     (f, omega (arith, counted at-lift, start at-lift .pre .1), droppable)
 
 returns : tie.Need-returns
@@ -135,7 +137,7 @@ returns c =
     let at-work = c .before .before .before .before .before .before .before .before .before .before .before .before .before .before .before in
     let at-lift = lifting at-work in
     let levels = start at-lift .args .levels .now in
-    network-written (start at-lift .args .neighbours) (ground at-lift) (good at-lift) (before at-work) levels (worked at-work)
+    network-written (start at-lift .args .neighbours) (start at-lift .args .manner) (ground at-lift) (good at-lift) (before at-work) levels (worked at-work)
     (c .before .drop-levels .ensures ∙ ap (λ (l : List ℕ). overwrite (map dropped l) levels) (levels-here at-work))
 
 pub fill-spec : {M : Type 1} → statement M

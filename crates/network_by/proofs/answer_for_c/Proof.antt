@@ -1,4 +1,4 @@
--- `network_by::answer_for_c` meets its contract: 11 packed, or the answer to a judged tile.
+-- `network_by::answer_for_c` meets its contract: 11 or 12 packed, or the answer to a judged tile.
 -- Assumes nothing.
 use mathlib.Core.Path.{subst}
 use Prim.Native.Nat.{_≤_}
@@ -16,6 +16,6 @@ pub answer-for-c-spec : {M : Type 1} → statement M
 answer-for-c-spec =
     tie.close
     (tie.spec
-    (λ c. search needs) (λ c. search needs) (λ c. search needs)
+    (λ c. search needs) (λ c. search needs) (λ c. search needs) (λ c. search needs) (λ c. search needs)
     answer-for-c-requires
-    (λ c. search needs) (λ c. search needs))
+    (λ c. search needs) (λ c. search needs) (λ c. search needs))

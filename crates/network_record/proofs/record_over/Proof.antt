@@ -52,7 +52,7 @@ returns-2 c =
     let e = named-ground (roomOf (a .network .now)) (a .ground .now) (g .0) (g .1 .0) (accepted-at m) in
     record {
       answer = sym (m .judged2 .given .1) ∙ judged-at (m .before .before);
-      lists = c .before .before .write-accepted .ensures ∙ ap (λ (k : Ground). overwrite (networkRecordBy (a .neighbours) k) (a .network .now)) e;
+      lists = c .before .before .write-accepted .ensures ∙ ap (λ (k : Ground). overwrite (networkRecordBy (a .neighbours) (a .manner) k) (a .network .now)) e;
     }
 
 pub record-over-spec : {M : Type 1} → statement M

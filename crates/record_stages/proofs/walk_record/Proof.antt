@@ -11,16 +11,15 @@ use Rattle.drainage.specs.Giving.{Ordered}
 use Rattle.ground.specs.Record.{groundIn}
 use Rattle.lists.specs.Lists.{stretch}
 use Rattle.record_stages.proofs.LinkedRecord.{heights-here, linked-here, read-full, read-network, read-tile}
-use Rattle.rules.specs.Carving.{receivers}
 use Rattle.rules.specs.Ground.{lifted}
 use Rattle.rules.specs.Land.{Land, ruleBy}
-use Rattle.rules.specs.Network.{Network}
+use Rattle.rules.specs.Network.{Network, receiversBy}
 use Rattle.rules.specs.SixLists.{onto, sixLists}
-use Rattle.rules.specs.Tile.{tileLand}
+use Rattle.rules.specs.Tile.{LawfulTile, tileLand}
 use Rattle.sections.specs.LittleEndian.{numbersAt}
 use Rattle.stages.proofs.Stages.{ordered, worked}
-use Rattle.stages.specs.Linking.{LawfulTile, Linked}
-use Rattle.walk.specs.Walk.{Lent, lent, LentHolds, Walked}
+use Rattle.stages.specs.Linking.{Linked}
+use Rattle.walk.specs.Walk.{Lent, lent, LentHolds}
 use Rattle.record_stages.proofs.walk_record.Statement.{statement}
 use Rattle.record_stages.proofs.walk_record.Tie as tie
 
@@ -40,13 +39,13 @@ tile c = tileLand (ruleBy (start c .args .neighbours)) (start c .args .width) (h
 links-are : (c : tie.After-cells) → Linked (ruleBy (start c .args .neighbours)) (start c .args .width) (heights c) (marks c) (start c .args .links .now)
 links-are c =
     let a = start c .args in
-    linked-here (a .neighbours) (a .bytes .now) (a .width) (a .height) (start c .pre .0 .good) (c .cells .result) (c .cells .ensures) (start c .pre .1 .0)
+    linked-here (a .neighbours) (a .bytes .now) (a .width) (a .height) (start c .pre .0 .good) (c .cells .result) (c .cells .ensures) (start c .pre .1 .0 .0)
 
 heights-are : (c : tie.After-cells)
     → let a = start c .args in heights c ≡ map lifted (groundIn (a .bytes .now) (a .width) (a .height) .heights)
 heights-are c =
     let a = start c .args in
-    heights-here (a .neighbours) (a .bytes .now) (a .width) (a .height) (start c .pre .0 .good) (c .cells .result) (c .cells .ensures) (start c .pre .1 .0)
+    heights-here (a .neighbours) (a .bytes .now) (a .width) (a .height) (start c .pre .0 .good) (c .cells .result) (c .cells .ensures) (start c .pre .1 .0 .0)
 
 heights-full : (c : tie.After-cells) → length (heights c) ≡ start c .args .height * start c .args .width
 heights-full c =
@@ -69,50 +68,40 @@ room c =
     subst (λ (n : ℕ). LentHolds n lists) (sym (heights-full c)) (start c .pre .1 .1)
 
 -- where the cells were counted
-abbrev counting : tie.After-walk-links → tie.After-cells
-counting c = c .before .before .before .before .before .before .before .before
+abbrev counting : tie.After-walk-by → tie.After-cells
+counting c = c .before .before .before .before .before .before .before .before .before
 
--- the five lists of the walk, as they were lent and as it left them
-abbrev before : tie.After-walk-links → Lent
-before c =
-    let a = start (counting c) .args in
-    lent (a .drainage .now) (a .order .now) (a .receivers .now) (a .levels .now) (a .wet .now)
-
-abbrev after : tie.After-walk-links → Lent
+-- the walk's lists, as it left them
+abbrev after : tie.After-walk-by → Lent
 after c =
-    let lists = c .walk-links .last .1 .1 .1 .1 .1 in
+    let lists = c .walk-by .last .1 .1 .1 .1 .1 .1 in
     lent (lists .0) (lists .1 .0) (lists .1 .1 .0) (lists .1 .1 .1 .0) (lists .1 .1 .1 .1 .0)
 
-walked : (c : tie.After-walk-links)
-    → let at-count = counting c in
-    Walked (tile at-count) (receivers (tile at-count)) (before c) (after c)
-walked c = let at-count = counting c in c .walk-links .ensures (receivers (tile at-count)) (links-are at-count)
-
 -- what the walk left is what drainage asks for
-drainable : (c : tie.After-walk-links)
+drainable : (c : tie.After-walk-by)
     → let at-count = counting c in
-    Ordered (tile at-count) (receivers (tile at-count)) (at-count .cells .result) (after c .order) (after c .receivers)
+    Ordered (tile at-count) (receiversBy (start at-count .args .manner) (tile at-count)) (at-count .cells .result) (after c .order) (after c .receivers)
 drainable c =
     let at-count = counting c in
-    ordered (tile-is at-count) (links-are at-count) (room at-count) (walked c) (at-count .cells .result)
+    ordered (tile-is at-count) (start at-count .args .manner) (c .walk-by .ensures) (at-count .cells .result)
     (at-count .cells .ensures ∙ sym (heights-full at-count))
 
-slice-aggregate-walk-links : tie.Need-slice-aggregate-walk-links
-slice-aggregate-walk-links c = c .before .cells .ensures ∙ sym (heights-full (c .before))
+slice-aggregate-walk-by : tie.Need-slice-aggregate-walk-by
+slice-aggregate-walk-by c = c .before .cells .ensures ∙ sym (heights-full (c .before))
 
-walk-links-requires : tie.Need-walk-links-requires
-walk-links-requires c κs =
-    let at-count = c .before .before .before .before .before .before .before in
-    ((receivers (tile at-count), links-are at-count), room at-count)
+walk-by-requires : tie.Need-walk-by-requires
+walk-by-requires c κs =
+    let at-count = c .before .before .before .before .before .before .before .before in
+    ((tile-is at-count, start at-count .pre .1 .0 .1), (links-are at-count, room at-count))
 
 drain-section-requires : tie.Need-drain-section-requires
 drain-section-requires c κs =
-    let at-walk = c .before .before .before .before .before .before .before .before .before .before .before .before .before in
+    let at-walk = c .before .before .before .before .before .before .before .before .before .before .before .before .before .before .before in
     let at-count = counting at-walk in
     let st = start at-count in
     let z = at-count .cells .ensures in
-    let k : length (after at-walk .stack) ≡ length (st .args .drainage .now) = at-walk .walk-links .kept .1 .1 .1 .1 .1 .0 in (
-      (tile at-count, receivers (tile at-count), drainable at-walk),
+    let k : length (after at-walk .stack) ≡ length (st .args .drainage .now) = at-walk .walk-by .kept .1 .1 .1 .1 .1 .1 .0 in (
+      (tile at-count, receiversBy (st .args .manner) (tile at-count), drainable at-walk),
       (omega (arith, z, st .pre .0 .long), omega (arith, z, st .pre .1 .1 .fits-stack, k)),
     )
 
@@ -120,7 +109,7 @@ drain-section-requires c κs =
 returns : tie.Need-returns
 returns c =
     let at-drain = c .before .before in
-    let at-walk = at-drain .before .before .before .before .before .before .before .before .before .before .before .before .before .before in
+    let at-walk = at-drain .before .before .before .before .before .before .before .before .before .before .before .before .before .before .before .before in
     let at-count = counting at-walk in
     let st = start at-count in
     let a = st .args in
@@ -130,10 +119,10 @@ returns c =
     let L = tile at-count in
     let lists = sixLists (a .receivers .now) [] (a .order .now) (a .levels .now) (a .drainage .now) (a .wet .now) in
     let e =
-    worked (tile-is at-count) (links-are at-count) (room at-count) (walked at-walk) [] (numbersAt 2 s (5 * n) n) n
-    (z ∙ sym (heights-full at-count)) refl (at-drain .drain-section .ensures L (receivers L) (drainable at-walk))
+    worked (tile-is at-count) (a .manner) (at-walk .walk-by .ensures) [] (numbersAt 2 s (5 * n) n) n
+    (z ∙ sym (heights-full at-count)) refl (at-drain .drain-section .ensures L (receiversBy (a .manner) L) (drainable at-walk))
     ∙ ap (λ (net : Network ℕ). onto net lists)
-    (read-network (a .neighbours) s (a .width) (a .height) (st .pre .0 .good) n z (a .lifted .now) (heights-are at-count)) in
+    (read-network (a .neighbours) s (a .width) (a .height) (st .pre .0 .good) n z (a .lifted .now) (heights-are at-count) (a .manner)) in
     let receivers = ap (λ (t : Network ℕ). t .receivers) e in
     let order = ap (λ (t : Network ℕ). t .order) e in
     let levels = ap (λ (t : Network ℕ). t .levels) e in
@@ -146,9 +135,9 @@ walk-record-spec =
     tie.close
     (tie.spec
     (λ c κs. search needs) (λ c. search needs) (λ c. search needs)
-    slice-aggregate-walk-links
+    slice-aggregate-walk-by
     (λ c. search needs) (λ c. search needs) (λ c. search needs)
-    walk-links-requires
+    walk-by-requires
     drain-section-requires
-    (λ c. search needs) (λ c. search needs) (λ c. search needs) (λ c. search needs) (λ c. search needs)
+    (λ c. search needs) (λ c. search needs) (λ c. search needs) (λ c. search needs) (λ c. search needs) (λ c. search needs)
     returns)

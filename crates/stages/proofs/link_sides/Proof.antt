@@ -1,7 +1,7 @@
 -- `stages::link_sides` meets its contract: of 4,226 entries the middle 4,096 are lent for the links.
 -- Assumes nothing.
 use borrow.Author.Needs.{needs}
-use Rattle.stages.proofs.Stages.{margin}
+use Rattle.walk.proofs.LinkMargins.{margin}
 use Rattle.stages.proofs.link_sides.Statement.{statement}
 use Rattle.stages.proofs.link_sides.Tie as tie
 

@@ -10,6 +10,7 @@ use second::ground::{Cell, Ground};
 use second::neighbours::Neighbours::{self, Eight, Four};
 use second::passes::{chosen_passes, crossings, pair, Crossing};
 
+use super::step::Step;
 use super::{right, Mutant, NetworkCall};
 
 /// A library that compares drops by another number.
@@ -61,8 +62,10 @@ macro_rules! height {
 
 pub const MUTANTS: &[Mutant<NetworkCall>] = mutants![
     // the count
-    "8 answered with the network of 4" => |_, ground, room| right(Four, ground, room),
-    "4 answered with the network of 8" => |_, ground, room| right(Eight, ground, room),
+    "8 answered with the network of 4" =>
+        |(_, manner), ground, room| right((Four, manner), ground, room),
+    "4 answered with the network of 8" =>
+        |(_, manner), ground, room| right((Eight, manner), ground, room),
     "rule 1: diagonals with 4 too" =>
         with!(first_receivers: |_, ground| first_receivers(Eight, ground)),
     "rule 3: diagonals with 4 too" =>
@@ -138,63 +141,6 @@ pub const MUTANTS: &[Mutant<NetworkCall>] = mutants![
             chosen_passes(&sorted, basins, ground)
         }),
 ];
-
-/// A step from a cell to one of its neighbours.
-struct Step<'a> {
-    ground: &'a Ground,
-    from: Cell,
-    to: Cell,
-}
-
-impl<'a> Step<'a> {
-    /// The step over a crossing, from its lesser cell.
-    fn over(ground: &'a Ground, crossing: &Crossing) -> Step<'a> {
-        Step {
-            ground,
-            from: crossing.lesser,
-            to: crossing.greater,
-        }
-    }
-
-    /// How far it leads down the rows and along the columns: -1, 0 or 1 each.
-    fn direction(&self) -> (isize, isize) {
-        let (row, column) = self.ground.size.row_and_column(self.from);
-        let (to_row, to_column) = self.ground.size.row_and_column(self.to);
-        let signed = |to: usize, from: usize| to as isize - from as isize;
-        (signed(to_row, row), signed(to_column, column))
-    }
-
-    fn is_diagonal(&self) -> bool {
-        self.ground.size.is_diagonal(self.from, self.to)
-    }
-
-    /// The heights of the two cells that a diagonal step passes between.
-    fn beside(&self) -> [i32; 2] {
-        let width = self.ground.size.width;
-        let (row, column) = self.ground.size.row_and_column(self.from);
-        let (to_row, to_column) = self.ground.size.row_and_column(self.to);
-        [row * width + to_column, to_row * width + column]
-            .map(|cell| self.ground.height(Cell::at(cell)))
-    }
-
-    fn drop(&self) -> u64 {
-        let (from, to) = (self.ground.height(self.from), self.ground.height(self.to));
-        u64::from(from.abs_diff(to))
-    }
-
-    fn steepness(&self) -> u64 {
-        steepness(self.ground, self.from, self.to)
-    }
-
-    /// The drop with a diagonal one divided by a fraction, all times the upper part of the fraction.
-    /// Of equals the straight one is the steeper.
-    fn divided_by(&self, upper: u64, lower: u64) -> (u64, bool) {
-        match self.is_diagonal() {
-            true => (lower * self.drop(), false),
-            false => (upper * self.drop(), true),
-        }
-    }
-}
 
 /// Rule 1 with some steps only, by another number: the greatest one, then the least cell.
 fn receivers<K: Ord>(

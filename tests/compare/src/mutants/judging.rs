@@ -23,10 +23,10 @@ pub const MUTANTS: &[Mutant<NetworkCall>] = mutants![
     "2: a longer record accepted" => table!(|tests| tests[LENGTH] = |record, _| {
         must(record.len() >= length(size_named(record)), Refusal::Length)
     }),
-    "2: a record under 16 bytes refused with 1" => |neighbours, ground, network| {
+    "2: a record under 16 bytes refused with 1" => |known, ground, network| {
         match ground.len() {
             0..=15 => Refusal::Size.answer(),
-            _ => right(neighbours, ground, network),
+            _ => right(known, ground, network),
         }
     },
     "7: only the first distance judged" => table!(|tests| tests[DISTANCES] = |record, _| {

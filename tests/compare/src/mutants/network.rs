@@ -206,13 +206,14 @@ fn own_lowest(passes: &[Crossing], basins: &Basins, ground: &Ground) -> Vec<Opti
     outflows
 }
 
-/// The right sums, with a walk that ends on a ring too.
-fn drainage_on_rings(receivers: &[Cell], ground: &Ground) -> Vec<u32> {
-    let mut drainage = vec![0; receivers.len()];
+/// The right sums, with a walk that ends on a ring too, however much it adds there.
+pub fn drainage_on_rings(receivers: &[Cell], ground: &Ground) -> Vec<u32> {
+    let mut drainage = vec![0_u32; receivers.len()];
     for start in ground.cells() {
         let mut cell = start;
         for _ in 0..receivers.len() {
-            drainage[cell.index()] += u32::from(ground.water[start.index()]);
+            let water = u32::from(ground.water[start.index()]);
+            drainage[cell.index()] = drainage[cell.index()].wrapping_add(water);
             if receivers[cell.index()] == cell {
                 break;
             }

@@ -1,23 +1,21 @@
 //! Mutants that write or answer wrongly: bytes touched that should not be, or a record or an answer
 //! put together wrong.
 
-use second::neighbours::Neighbours;
-
-use super::{right, Mutant, NetworkCall};
+use super::{right, Known, Mutant, NetworkCall};
 
 /// A library that alters an accepted record after it has been written.
 macro_rules! patched {
     ($patch:expr) => {
-        |neighbours, ground, network| patched(neighbours, ground, network, $patch)
+        |known, ground, network| patched(known, ground, network, $patch)
     };
 }
 
 pub const MUTANTS: &[Mutant<NetworkCall>] = mutants![
-    "writes before it judges" => |neighbours, ground, network| {
+    "writes before it judges" => |known, ground, network| {
         if let Some(first) = network.first_mut() {
             *first = 0;
         }
-        right(neighbours, ground, network)
+        right(known, ground, network)
     },
     "a byte past the record cleared" => patched!(|room, length, _| {
         if let Some(past) = room.get_mut(length) {
@@ -39,14 +37,14 @@ pub const MUTANTS: &[Mutant<NetworkCall>] = mutants![
             room[..length].copy_from_slice(&sample_d());
         }
     }),
-    "the answer is the length of the room" => |neighbours, ground, network| {
-        match right(neighbours, ground, network) {
+    "the answer is the length of the room" => |known, ground, network| {
+        match right(known, ground, network) {
             answer if answer < 65_536 => network.len() as u32,
             answer => answer,
         }
     },
-    "number and place exchanged in the answer" => |neighbours, ground, network| {
-        match right(neighbours, ground, network) {
+    "number and place exchanged in the answer" => |known, ground, network| {
+        match right(known, ground, network) {
             answer if answer < 65_536 => answer,
             answer => answer.rotate_left(16),
         }
@@ -56,13 +54,13 @@ pub const MUTANTS: &[Mutant<NetworkCall>] = mutants![
 /// The right answer, with an accepted record altered after it has been written. The patch is given
 /// the room, the length written and the room as it was before.
 fn patched(
-    neighbours: Neighbours,
+    known: Known,
     ground: &[u8],
     network: &mut [u8],
     patch: fn(&mut [u8], usize, &[u8]),
 ) -> u32 {
     let before = network.to_vec();
-    let answer = right(neighbours, ground, network);
+    let answer = right(known, ground, network);
     if answer < 65_536 {
         patch(network, answer as usize, &before);
     }

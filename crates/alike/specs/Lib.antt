@@ -1,0 +1,4 @@
+pub mod NeighbourMasks
+pub mod Columns
+pub mod Narrowed
+pub mod Samples

@@ -1,0 +1,4 @@
+pub mod Margins
+pub mod LeastLevels
+pub mod Weighing
+pub mod OneOutcome

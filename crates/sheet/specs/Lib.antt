@@ -1,0 +1,2 @@
+pub mod LevelSteps
+pub mod SheetLinks

@@ -1,0 +1,4 @@
+pub mod Steps
+pub mod Samples
+pub mod Wave
+pub mod Spread
