@@ -51,22 +51,20 @@ struct Runs {
     by_4: InBothManners,
 }
 
-/// The call that is told neighbours and manner, in both manners on the same tiles: each beside the plain version, and beside each other.
+/// The call that is told neighbours and manner, in both manners on the same tiles.
 struct InBothManners {
     carve: Run,
     sheet: Run,
-    beside: Run,
 }
 
 impl InBothManners {
     /// The plateaus, made to be slow for sheets, come first of the adversarial families.
     fn new(neighbours: u32, mix: &[Tile], families: &[&'static [Family]]) -> InBothManners {
         let families = [&[&slow_sheets::FAMILIES[..]], families].concat();
-        let run = |race| Run::new(race, mix, &families);
+        let run = |manner| Run::new(Race::network_by(neighbours, manner), mix, &families);
         InBothManners {
-            carve: run(Race::network_by(neighbours, CARVE)),
-            sheet: run(Race::network_by(neighbours, SHEET)),
-            beside: run(Race::sheet_and_carve(neighbours)),
+            carve: run(CARVE),
+            sheet: run(SHEET),
         }
     }
 }
@@ -93,10 +91,8 @@ impl Runs {
                     &mut self.lakes,
                     &mut self.by_8.carve,
                     &mut self.by_8.sheet,
-                    &mut self.by_8.beside,
                     &mut self.by_4.carve,
                     &mut self.by_4.sheet,
-                    &mut self.by_4.beside,
                 ] {
                     run.round(number * part, tiles);
                 }
@@ -183,7 +179,7 @@ fn print_sheets(neighbours: u32, mix: &[Tile], runs: &InBothManners) {
         slowest.figure, slowest.name
     );
     println!("sheet by {neighbours} to plain: {:.3}", times.ratio());
-    let beside = print_beside_carving(mix, &runs.beside);
+    let beside = print_beside_carving(mix, runs);
     let families = beside.iter().map(|table| &table.family);
     let greatest = families.max_by(|one, other| one.figure.total_cmp(&other.figure));
     println!("sheet to carve by {neighbours}: {:.3}", beside[0].ratio);
@@ -198,19 +194,21 @@ fn print_sheets(neighbours: u32, mix: &[Tile], runs: &InBothManners) {
 }
 
 /// The mix, then the plateaus, then all other adversarial tiles.
-fn print_beside_carving(mix: &[Tile], run: &Run) -> Vec<Beside> {
+fn print_beside_carving(mix: &[Tile], runs: &InBothManners) -> Vec<Beside> {
     println!("\nthe mix beside carving; the last column is the greatest ratio of a tile");
     let names = tiles::FAMILIES.map(|(name, _)| name);
-    let mut tables = vec![print_beside(&names, mix, &run.mix_best)];
-    for (number, slow) in run.slow.iter().enumerate() {
+    let sheet = &runs.sheet.mix_best;
+    let mut tables = vec![print_beside(&names, mix, sheet, &runs.carve.mix_best)];
+    for (number, (sheet, carve)) in runs.sheet.slow.iter().zip(&runs.carve.slow).enumerate() {
         let what = if number == 0 {
             "plateaus"
         } else {
             "adversarial tiles"
         };
         println!("\n{what} beside carving");
-        let names: Vec<&str> = slow.families.iter().map(|family| family.name).collect();
-        tables.push(print_beside(&names, &slow.tiles, &slow.best));
+        let names: Vec<&str> = sheet.families.iter().map(|family| family.name).collect();
+        let table = print_beside(&names, &sheet.tiles, &sheet.best, &carve.best);
+        tables.push(table);
     }
     tables
 }

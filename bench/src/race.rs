@@ -1,9 +1,8 @@
-//! The clock: a call of ours and its plain version, or another call of ours, in turn on each tile, in one process. Each tile's time is the least of several runs, and
+//! The clock: a call of ours and its plain version in turn on each tile, in one process. Each tile's time is the least of several runs, and
 //! all other tiles are run between two runs of the same one: a busy machine spoils some runs, and no processor learns a tile by heart.
 
 use std::time::{Duration, Instant};
 
-use compare::asked::{CARVE, SHEET};
 use compare::library::under_test;
 
 use crate::plain::Plain;
@@ -72,11 +71,9 @@ type Call = Box<dyn FnMut(&[u8], &mut [u8]) -> u32>;
 /// Both sides, each with a room of its own.
 pub struct Race {
     ours: Call,
-    other: Call,
+    plain: Call,
     our_room: Vec<u8>,
-    other_room: Vec<u8>,
-    /// Whether both have to leave the same bytes.
-    same_bytes: bool,
+    plain_room: Vec<u8>,
     rounds: usize,
 }
 
@@ -90,19 +87,12 @@ impl Race {
 
     /// The network of a tile over these neighbours and in this manner.
     pub fn network_by(neighbours: u32, manner: u32) -> Race {
+        let ours = under_test().askvimur_network_by;
+        let ours = move |ground: &[u8], room: &mut [u8]| ours(neighbours, manner, ground, room);
         let mut plain = Plain::default();
         let plain =
             move |ground: &[u8], room: &mut [u8]| plain.call_by(neighbours, manner, ground, room);
-        Race::of(ours_by(neighbours, manner), Box::new(plain))
-    }
-
-    /// The network of a tile over these neighbours as a sheet, and carved: both are ours, and their receivers differ.
-    pub fn sheet_and_carve(neighbours: u32) -> Race {
-        let race = Race::of(ours_by(neighbours, SHEET), ours_by(neighbours, CARVE));
-        Race {
-            same_bytes: false,
-            ..race
-        }
+        Race::of(Box::new(ours), Box::new(plain))
     }
 
     /// The lakes of a tile.
@@ -112,13 +102,12 @@ impl Race {
         Race::of(Box::new(under_test().askvimur_lakes), Box::new(plain))
     }
 
-    fn of(ours: Call, other: Call) -> Race {
+    fn of(ours: Call, plain: Call) -> Race {
         Race {
             ours,
-            other,
+            plain,
             our_room: vec![0; ROOM],
-            other_room: vec![0; ROOM],
-            same_bytes: true,
+            plain_room: vec![0; ROOM],
             rounds: 0,
         }
     }
@@ -127,37 +116,30 @@ impl Race {
     pub fn round(&mut self, tiles: &[Tile], best: &mut [Best]) {
         self.rounds += 1;
         for (index, (tile, best)) in tiles.iter().zip(best).enumerate() {
-            let (ours, other) = match (index + self.rounds) % 2 {
+            let (ours, plain) = match (index + self.rounds) % 2 {
                 0 => {
                     let ours = timed(&mut self.ours, &tile.record, &mut self.our_room);
                     (
                         ours,
-                        timed(&mut self.other, &tile.record, &mut self.other_room),
+                        timed(&mut self.plain, &tile.record, &mut self.plain_room),
                     )
                 }
                 _ => {
-                    let other = timed(&mut self.other, &tile.record, &mut self.other_room);
+                    let plain = timed(&mut self.plain, &tile.record, &mut self.plain_room);
                     (
                         timed(&mut self.ours, &tile.record, &mut self.our_room),
-                        other,
+                        plain,
                     )
                 }
             };
             assert!(
-                ours.answer == other.answer
-                    && (!self.same_bytes || self.our_room == self.other_room),
+                ours.answer == plain.answer && self.our_room == self.plain_room,
                 "the two sides differ on tile {index} of the round"
             );
             best.ours = best.ours.min(ours.time);
-            best.other = best.other.min(other.time);
+            best.other = best.other.min(plain.time);
         }
     }
-}
-
-/// Our call, told these neighbours and this manner.
-fn ours_by(neighbours: u32, manner: u32) -> Call {
-    let ours = under_test().askvimur_network_by;
-    Box::new(move |ground: &[u8], room: &mut [u8]| ours(neighbours, manner, ground, room))
 }
 
 /// What one run of one side came to.

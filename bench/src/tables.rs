@@ -79,11 +79,16 @@ pub struct Beside {
 }
 
 /// A line for each family, with the greatest ratio of a tile of it.
-pub fn print_beside(names: &[&str], tiles: &[Tile], both: &[Best]) -> Beside {
+pub fn print_beside(names: &[&str], tiles: &[Tile], sheet: &[Best], carve: &[Best]) -> Beside {
+    let both = sheet.iter().zip(carve).map(|(sheet, carve)| Best {
+        ours: sheet.ours,
+        other: carve.ours,
+    });
+    let both: Vec<Best> = both.collect();
     println!("{}{:>9}", head("sheet us", "carve us"), "greatest");
     let (mut greatest_family, mut tile) = (Greatest::NONE, Greatest::NONE);
     for (number, &name) in names.iter().enumerate() {
-        let best = || of_family(number, tiles, both);
+        let best = || of_family(number, tiles, &both);
         let times: Times = best().collect();
         let of_tile = |best: Best| best.ours.as_secs_f64() / best.other.as_secs_f64();
         let greatest = greatest_tile(name, best().map(of_tile));
@@ -95,7 +100,7 @@ pub fn print_beside(names: &[&str], tiles: &[Tile], both: &[Best]) -> Beside {
         });
     }
     Beside {
-        ratio: both.iter().copied().collect::<Times>().ratio(),
+        ratio: both.into_iter().collect::<Times>().ratio(),
         family: greatest_family,
         tile,
     }

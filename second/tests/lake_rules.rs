@@ -1,7 +1,5 @@
 //! W-202 read once more, as slowly as it is written, on small tiles full of ties; and its laws.
 
-mod chance;
-
 use second::ground::{Cell, Ground, Size};
 use second::lakes::{lakes, listed, split, Lake};
 use second::network::network;
@@ -9,7 +7,13 @@ use second::network::network;
 /// Small tiles with few heights, always the same ones. An outlet stands higher than most of its tile,
 /// so that there are lakes.
 fn small_tiles() -> Vec<Ground> {
-    let mut below = chance::numbers();
+    let mut state = 1_u64;
+    let mut below = move |limit: u64| {
+        state = state
+            .wrapping_mul(6_364_136_223_846_793_005)
+            .wrapping_add(1_442_695_040_888_963_407);
+        (state >> 33) % limit
+    };
     let mut tiles = Vec::new();
     for _ in 0..2_000 {
         let (width, height) = (1 + below(6) as usize, 1 + below(6) as usize);

@@ -1,5 +1,5 @@
 pub mod Narrowed
 pub mod Like
 pub mod Columns
-pub mod RowEnds
+pub mod Puts
 pub mod OneOutcome

@@ -2,25 +2,27 @@
 -- the test together. And what a list with a margin has for a place is the entry of the cell that stands there.
 -- Assumes nothing.
 use mathlib.Core.Bool.{Bool, cond, false, false≢true, true, ◌&&◌}
+use mathlib.Core.List.Memᴰ.{cases_cons as in-cases}
 use mathlib.Core.List.Memᴰ.{head as in_head}
+use mathlib.Core.List.Memᴰ.{not-nil as in-none}
 use mathlib.Core.List.{[], List}
 use mathlib.Core.List.Memᴰ.{tail as in_Tail}
 use mathlib.Core.List.{map, ◌∷◌}
+use mathlib.Core.Logic.{inl, inr, ◌⊎◌}
 use mathlib.Core.Path.{ap, refl, subst, sym, ◌∙◌, ◌≡◌}
 use Prim.Native.Nat.{suc, ℕ, ◌%◌, ◌*◌, ◌+◌, ◌/◌, ◌<◌, ◌≤◌}
-use native.Mathlib.Nat.{one-mul, zero-mul}
+use native.Mathlib.Nat.{div-div-eq-div-mul, one-mul, zero-mul}
 use native.Mathlib.Omega.{arith}
 use borrow.Author.Tests.{eq-eqb, ne_eqb}
 use Rattle.alike.specs.Narrowed.{beyond, bit_in, narrowed, narrowed_by}
 use Rattle.grid.proofs.Corners.{corner-around, corner_diagonal, side_straight}
-use Rattle.grid.proofs.Digits.{mask_digit}
 use Rattle.grid.proofs.Rules.{around_rule, rule_by_lem}
 use Rattle.grid.proofs.Window.{beside_stands, on_stands, stands_number, stands_place}
 use Rattle.grid.specs.Masks.{bit_of, bits, joins_at, mask_of}
 use Rattle.grid.specs.Neighbours.{places_by}
 use Rattle.grid.specs.Window.{around, beside, cell_at, corners, IsRule, on_tile, Rows, Stands}
 use Rattle.lists.proofs.Sorted.{sorted_member}
-use Rattle.lists.proofs.Tests.{and_left, and_right, never}
+use Rattle.lists.proofs.Tests.{and_left, and_right, eq_or_ne, never}
 use Rattle.lists.specs.Ascending.{Sorted, sorted_next}
 use Rattle.lists.specs.Lists.{at, ◌∈◌}
 use Rattle.grid.specs.declared.Neighbours.{Neighbours}
@@ -29,6 +31,28 @@ use Rattle.grid.specs.declared.Neighbours.TheVariants.{Eight, Four}
 -- the entry for a place where a cell stands is that cell's
 pub beyond_stands : {w n c p d : ℕ} (l : List ℕ) → Stands w n c p d → beyond w l c p ≡ at l (d + 65)
 beyond_stands {w} {n} {c} {p} {d} l S = let e = stands_number S in ap (at l) (omega arith)
+
+-- the bit of a place tells its test
+bits_digit : (u : ℕ → Bool) (ps : List ℕ) {p : ℕ} → p ∈ ps → bits (map u ps) / bit_of ps p % 2 ≡ cond (u p) 1 0
+bits_digit u [] m = absurd (in-none m)
+bits_digit u (q ∷ qs) {p} m = go (eq_or_ne p q) (in-cases m) (bits_digit u qs {p = p})
+  where
+    first : (t : Bool) (r : ℕ) → (cond t 1 0 + 2 * r) / 1 % 2 ≡ cond t 1 0
+    first true r = omega arith
+    first false r = omega arith
+
+    rest : (t : Bool) (r : ℕ) → (cond t 1 0 + 2 * r) / 2 ≡ r
+    rest true r = omega arith
+    rest false r = omega arith
+
+    go : (p ≡ q) ⊎ (p ≡ q → ⊥) → (p ≡ q) ⊎ (p ∈ qs) → (p ∈ qs → bits (map u qs) / bit_of qs p % 2 ≡ cond (u p) 1 0)
+        → bits (map u (q ∷ qs)) / bit_of (q ∷ qs) p % 2 ≡ cond (u p) 1 0
+    go (inl e) k ih = rw (eq-eqb p q e) (first (u q) (bits (map u qs)) ∙ ap (λ (x : ℕ). cond (u x) 1 0) (sym e))
+    go (inr z) (inl e) ih = absurd (z e)
+    go (inr z) (inr i) ih =
+        rw (ne_eqb p q z)
+        (ap (λ (x : ℕ). x % 2) (sym (div-div-eq-div-mul (bits (map u (q ∷ qs))) 2 (bit_of qs p)))
+        ∙ ap (λ (x : ℕ). x / bit_of qs p % 2) (rest (u q) (bits (map u qs))) ∙ ih i)
 
 -- a digit of 0 adds nothing
 no_digit : (t : Bool) (bit : ℕ) → cond t (0 * bit) 0 ≡ 0
@@ -62,9 +86,10 @@ passing-all u j (p ∷ ps) (sorted_next h s) =
     omega arith
 
 module _ {w n : ℕ} (G : Rows w n) {places : List ℕ} (R : IsRule places) (c : ℕ) (E : ℕ → ℕ → Bool) {mask : ℕ} (is-mask : mask ≡ mask_of places w n E c) where
-  -- the mask's digit says whether the relation joins c to what stands there
-  pub digit_is : (p : ℕ) → p ∈ places → mask / bit_of places p % 2 ≡ cond (joins_at w n E c p) 1 0
-  digit_is p m = ap (λ (x : ℕ). x / bit_of places p % 2) is-mask ∙ mask_digit places w n E c m
+  -- a mask's bit says whether the relation joins c to what stands there
+  pub mask_digit : (p : ℕ) → p ∈ places → mask / bit_of places p % 2 ≡ cond (joins_at w n E c p) 1 0
+  unfolding mask_of
+  mask_digit p m = ap (λ (x : ℕ). x / bit_of places p % 2) is-mask ∙ bits_digit (joins_at w n E c) places m
 
   module _ (f : ℕ → ℕ → Bool) (test : ℕ → Bool)
       (agrees : (p d : ℕ) → p ∈ places → Stands w n c p d → E c d ≡ true → test p ≡ f c d) where
@@ -72,7 +97,7 @@ module _ {w n : ℕ} (G : Rows w n) {places : List ℕ} (R : IsRule places) (c :
     both x y = E x y && f x y
 
     here : (p : ℕ) → p ∈ places → cond (test p) (bit_in places mask p) 0 ≡ cond (joins_at w n both c p) (bit_of places p) 0
-    here p m = ap (λ (x : ℕ). cond (test p) (x * bit_of places p) 0) (digit_is p m) ∙ go (on_tile w n c p) refl (E c (cell_at w c p)) refl
+    here p m = ap (λ (x : ℕ). cond (test p) (x * bit_of places p) 0) (mask_digit p m) ∙ go (on_tile w n c p) refl (E c (cell_at w c p)) refl
       where
         go : (o : Bool) → on_tile w n c p ≡ o → (e : Bool) → E c (cell_at w c p) ≡ e
             → cond (test p) (cond (o && e) 1 0 * bit_of places p) 0 ≡ cond (o && (e && f c (cell_at w c p))) (bit_of places p) 0
@@ -106,7 +131,7 @@ module _ {w n : ℕ} (G : Rows w n) (N : Neighbours) (c : ℕ) (E : ℕ → ℕ 
           z (subst (λ (x : ℕ). x ∈ places_by N) (sym (stands_place T) ∙ stands_place S) i)
 
       digit : mask / bit_of around p % 2 ≡ 0
-      digit = digit_is G around_rule c E is-mask p m ∙ rw (never (joins_at w n E c p) apart)
+      digit = mask_digit G around_rule c E is-mask p m ∙ rw (never (joins_at w n E c p) apart)
 
   pub narrowed_by_lem : (f : ℕ → ℕ → Bool) (test : ℕ → Bool) → ((p d : ℕ) → p ∈ around → Stands w n c p d → E c d ≡ true → test p ≡ f c d)
       → narrowed_by N mask test ≡ mask_of around w n (λ x y. E x y && f x y) c

@@ -30,29 +30,16 @@ fn column(neighbours: Neighbours, above: bool, below: bool, upper: u8, side: u8,
     }
 }
 
-// The same bits for every cell of the row that starts at b. In the loop the cells before column x have them. Nothing but the store stands in
-// it, so that the compiler stores the whole row at once.
-fn fill_row(w: usize, b: usize, bits: u8, out: &mut [u8])
-    requires { (b + w ≤ length out.old) × (b + w ≤ 4096) }
-    ensures { Puts (λ k. bits) b (b + w) out.old out.new }
+// The masks of the row that starts at b, by the three columns of a window in that row. In the loop the cells before column x have theirs.
+fn store_row(w: usize, b: usize, left: u8, middle: u8, right: u8, out: &mut [u8])
+    requires { (b + w ≤ length out.old) × (b + w ≤ 4096) × (middle + left + right < 256) }
+    ensures { Puts (λ k. in_column w left middle right (k - b)) b (b + w) out.old out.new }
 {
     let mut x = 0;
     while x < w {
-        out[b + x] = bits;
+        out[b + x] = middle + bits_if(0 < x, left) + bits_if(x + 1 < w, right);
         x += 1;
     }
-}
-
-// The masks of the row that starts at b, by the three columns of a window in that row: the first cell has none to its left, the last none to
-// its right.
-fn store_row(w: usize, b: usize, left: u8, middle: u8, right: u8, out: &mut [u8])
-    requires { (0 < w) × (b + w ≤ length out.old) × (b + w ≤ 4096) × (middle + left + right < 256) }
-    ensures { Puts (λ k. in_column w left middle right (k - b)) b (b + w) out.old out.new }
-{
-    let last = b + w - 1;
-    fill_row(w, b, middle + left + right, out);
-    out[b] = out[b] - left;
-    out[last] = out[last] - right;
 }
 
 // The same by the rows of the tile.

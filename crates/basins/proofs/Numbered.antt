@@ -12,8 +12,8 @@ use Rattle.basins.specs.Jumps.{FirstReceivers, one_if, singular_below, Within}
 use Rattle.basins.specs.Labels.{label_by, Marked}
 use Rattle.basins.specs.Numbering.{label_in}
 use Rattle.lists.proofs.Filled.{filled_again, filled_at, filled_same}
-use Rattle.lists.proofs.Keep.{keep_append, keep-length, keep_same}
-use Rattle.lists.proofs.Range.{range_length, range_split, upto-below}
+use Rattle.lists.proofs.Keep.{keep_append, keep_same}
+use Rattle.lists.proofs.Range.{range_split, upto-below}
 use Rattle.lists.specs.Lists.{at, filled, keep, range, upto, ◌∈◌}
 use Rattle.rules.proofs.FirstReceivers.{singular_of-below}
 use Rattle.rules.specs.FirstWays.{basin, first_receiver, singular, singular_of}
@@ -61,13 +61,6 @@ module _ (L : Land) (n : ℕ) (entries : List ℕ) (F : FirstReceivers L n entri
   singular-within q e c h =
       subst (λ (k : ℕ). k < n) (sym (ap (λ (l : List ℕ). at l c) e ∙ filled_at (singular_of L) n entries c h)) (singular_in c h)
 
-  -- a count of singular cells below one of few cells
-  pub number_small : (numbers old : List ℕ) → numbers ≡ filled (singular_below entries) n old → (c : ℕ) → c < n → at numbers c < 65535
-  unfolding singular_below
-  number_small numbers old a c h =
-      let e = ap (λ (l : List ℕ). at l c) a ∙ filled_at (singular_below entries) n old c h in
-      omega (arith, e, keep-length (λ d. eqb (at entries d) d) (upto c), range_length c 0, F.few)
-
   cell_found : (q : List ℕ) → q ≡ filled (singular_of L) n entries → (c : ℕ) → c < n → at q c ≡ singular_of L c
   cell_found q b c h = ap (λ (l : List ℕ). at l c) b ∙ filled_at (singular_of L) n entries c h
 
@@ -87,21 +80,22 @@ module _ (L : Land) (n : ℕ) (entries : List ℕ) (F : FirstReceivers L n entri
 
   -- and labelled
   pub labelled : (marks numbers q out old labels : List ℕ) → numbers ≡ filled (singular_below entries) n old
-      → q ≡ filled (singular_of L) n entries → out ≡ filled (λ c. label_by (is_outlet marks (at q c)) (at numbers (at q c))) n labels
-      → out ≡ filled (label_in L marks) n labels
+      → q ≡ filled (singular_of L) n entries → out ≡ filled (λ c. label_by n (is_outlet marks (at q c)) (at numbers (at q c))) n labels
+      → out ≡ filled (label_in L n marks) n labels
   labelled marks numbers q out old labels a b e =
-      e ∙ filled_same (λ c. label_by (is_outlet marks (at q c)) (at numbers (at q c))) (label_in L marks) n labels found
+      e ∙ filled_same (λ c. label_by n (is_outlet marks (at q c)) (at numbers (at q c))) (label_in L n marks) n labels found
     where
-      found : (c : ℕ) → c < n → label_by (is_outlet marks (at q c)) (at numbers (at q c)) ≡ label_in L marks c
+      found : (c : ℕ) → c < n → label_by n (is_outlet marks (at q c)) (at numbers (at q c)) ≡ label_in L n marks c
       found c h =
-          ap (λ (d : ℕ). label_by (is_outlet marks d) (at numbers (at q c))) (cell_found q b c h)
-          ∙ ap (label_by (is_outlet marks (singular_of L c))) (number_found numbers q old a b c h)
+          ap (λ (d : ℕ). label_by n (is_outlet marks d) (at numbers (at q c))) (cell_found q b c h)
+          ∙ ap (label_by n (is_outlet marks (singular_of L c))) (number_found numbers q old a b c h)
 
   -- by the land's own marks these are the labels of rule 4's nodes
-  pub labels_marked : (marks labels : List ℕ) → Marked L n marks → filled (label_in L marks) n labels ≡ filled (label_of L) n labels
+  pub labels_marked : (marks labels : List ℕ) → Marked L n marks → filled (label_in L n marks) n labels ≡ filled (label_of L) n labels
   unfolding label_of
-  labels_marked marks labels M = filled_same (label_in L marks) (label_of L) n labels same
+  labels_marked marks labels M = filled_same (label_in L n marks) (label_of L) n labels same
     where
-      same : (c : ℕ) → c < n → label_in L marks c ≡ label_of L c
+      same : (c : ℕ) → c < n → label_in L n marks c ≡ label_of L c
       same c h =
-          ap (λ (t : Bool). label_by t (basin L c)) (sym (M (singular_of L c) (singular_in c h)))
+          ap (λ (t : Bool). cond t n (basin L c)) (sym (M (singular_of L c) (singular_in c h)))
+          ∙ ap (λ (k : ℕ). cond (L.outlet (singular_of L c)) k (basin L c)) (sym F.cells)

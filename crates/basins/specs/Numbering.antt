@@ -8,12 +8,12 @@ use Rattle.rules.specs.FirstWays.{basin, singular_of}
 use Rattle.rules.specs.Ground.{is_outlet}
 use Rattle.rules.specs.Land.{Land}
 
--- the label of cell c by marks, whatever they mark: that of the singular cell that it leads to
-abbrev pub label_in : Land → (marks : List ℕ) → ℕ → ℕ
-label_in L marks c = label_by (is_outlet marks (singular_of L c)) (basin L c)
+-- the label of cell c by the marks of n cells, whatever they mark: that of the singular cell that it leads to
+abbrev pub label_in : Land → (n : ℕ) (marks : List ℕ) → ℕ → ℕ
+label_in L n marks c = label_by n (is_outlet marks (singular_of L c)) (basin L c)
 
 -- what `basin_numbers` promises: where the entries are the first receivers of a land, each becomes the number of its cell's basin, and
 -- each cell gets its label
 pub record BasinsNumbered (n : ℕ) (marks entries labels entries' labels' : List ℕ) : Type 0 where
   pub numbers_are : (L : Land) → FirstReceivers L n entries → entries' ≡ filled (basin L) n entries
-  pub labels_are : (L : Land) → FirstReceivers L n entries → labels' ≡ filled (label_in L marks) n labels
+  pub labels_are : (L : Land) → FirstReceivers L n entries → labels' ≡ filled (label_in L n marks) n labels

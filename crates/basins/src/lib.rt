@@ -1,6 +1,6 @@
 // Rule 2, basins: the singular cell that each cell's first receivers lead to, the number of each cell's basin, and its label.
 // Entries jump: each cell's entry is replaced by its entry's entry, until all entries lead far enough or none moves.
-ghost use Rattle.std.specs.Prelude.{◌≡◌, ℕ, ◌+◌, ◌<◌, ◌≤◌, eqb, length};
+ghost use Rattle.std.specs.Prelude.{◌≡◌, ◌+◌, ◌<◌, ◌≤◌, eqb, length};
 ghost use Rattle.basins.specs.Jumps.{any_moved, FirstReceivers, jumped, moved_on, one_if, singular_below, Within};
 ghost use Rattle.basins.specs.Labels.{label_by};
 ghost use Rattle.basins.specs.Numbering.{BasinsNumbered};
@@ -77,34 +77,29 @@ fn number_basins(receivers: &[u16], n: usize, numbers: &mut [u16])
     }
 }
 
-// The label of a cell, by its singular cell: 0 for all outlet basins, and one more than its basin's number for any other.
-fn label_of(outlet: bool, number: Basin) -> Basin
-    requires { number.0 < 65535 }
-    ensures { result.0 ≡ label_by outlet number.0 }
+// The label of a cell, by its singular cell: all outlet basins have one, the count of cells, and any other has its basin's number.
+fn label_of(all: Basin, outlet: bool, number: Basin) -> Basin
+    ensures { result.0 ≡ label_by all.0 outlet number.0 }
 {
-    if outlet {
-        Basin(0)
-    } else {
-        Basin(number.0 + 1)
-    }
+    if outlet { all } else { number }
 }
 
 // Each entry, a cell, is replaced by the number that this cell has in a list; and each cell gets its label.
 fn look_up(numbers: &[u16], marks: &[u8], n: usize, entries: &mut [u16], labels: &mut [u16])
     requires n_in_bounds { (n ≤ length numbers.now) × (n ≤ length entries.old) × Within n entries.old }
     requires n_in_bounds_2 { (n ≤ length marks.now) × (n ≤ length labels.old) × (n ≤ 4096) }
-    requires by_index { (c : ℕ) → c < n → at numbers.now c < 65535 }
     ensures entries_after { entries.new ≡ filled (λ c. at numbers.now (at entries.old c)) n entries.old }
     ensures labels_after { labels.new
-        ≡ filled (λ c. label_by (is_outlet marks.now (at entries.old c)) (at numbers.now (at entries.old c)))
+        ≡ filled (λ c. label_by n (is_outlet marks.now (at entries.old c)) (at numbers.now (at entries.old c)))
         n labels.old }
 {
+    let all = Basin(n as u16);
     let mut c = 0;
     while c < n {
         let d = entries[c] as usize;
         let number = numbers[d];
         entries[c] = number;
-        labels[c] = label_of(is_outlet(marks[d]), Basin(number)).0;
+        labels[c] = label_of(all, is_outlet(marks[d]), Basin(number)).0;
         c += 1;
     }
 }

@@ -7,7 +7,6 @@ ghost use Rattle.ground.specs.Record.{ground_in};
 ghost use Rattle.record_stages.specs.LinkedRecord.{LinkedRecord};
 ghost use Rattle.record_stages.specs.Readable.{Readable};
 ghost use Rattle.rules.specs.Network.{lifted_network_of};
-ghost use Rattle.rules.specs.declared.Manner.TheVariants.{Carve};
 ghost use Rattle.text.specs.Text.{ground_text};
 ghost use Rattle.text.specs.Writing.{most_text, Printed};
 
@@ -57,11 +56,11 @@ fn print_linked(
     width: u16,
     height: u16,
     lifted: &[u32],
-    links: &[u8],
+    links: &mut [u8],
     text: &mut [u8],
 ) -> usize
     requires readable { Readable bytes.now width height }
-    requires linked_record { LinkedRecord Four Carve bytes.now width height lifted.now links.now }
+    requires linked_record { LinkedRecord Four bytes.now width height lifted.now links.old × (length links.old ≡ 4226) }
     requires most_text_in_bounds { most_text ≤ length text.old }
     ensures { Printed (ground_text (ground_in bytes.now width height)) text.old text.new result }
 {
@@ -72,6 +71,7 @@ fn print_linked(
     let mut wet = [0u8; 4096];
     walk_record(
         Neighbours::Four,
+        Manner::Carve,
         bytes,
         width,
         height,
@@ -97,7 +97,6 @@ fn print_tile(bytes: &[u8], width: u16, height: u16, text: &mut [u8]) -> usize
     let mut links = [0u8; 4226];
     link_record(
         Neighbours::Four,
-        Manner::Carve,
         bytes,
         width,
         height,
@@ -105,7 +104,7 @@ fn print_tile(bytes: &[u8], width: u16, height: u16, text: &mut [u8]) -> usize
         &mut basins,
         &mut links,
     );
-    print_linked(bytes, width, height, &lifted, &links, text)
+    print_linked(bytes, width, height, &lifted, &mut links, text)
 }
 
 // The text for an input, and how many bytes it takes.

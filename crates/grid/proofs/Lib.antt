@@ -2,7 +2,6 @@ pub mod Rows
 pub mod Window
 pub mod AtPlaces
 pub mod Masks
-pub mod Digits
 pub mod Sides
 pub mod Rules
 pub mod OneOutcome

@@ -65,22 +65,6 @@ pub fn unite(group: &mut [u16], a: Basin, b: Basin) -> u8
     1
 }
 
-// The root of a basin's group. Each entry on the way is hung one step higher.
-pub fn find_basin(group: &mut [u16], b: Basin) -> Basin
-    requires { (b.0 < length group.old) × Down group.old }
-    ensures { (result.0 ≡ root_of group.old b.0) × SameGroups group.old group.new }
-{
-    Basin(find(group, b.0))
-}
-
-// The groups of two basins that are roots become one: the greater is hung under the lesser.
-pub fn hang_basins(group: &mut [u16], p: Basin, q: Basin)
-    requires { Down group.old × Root group.old p.0 × Root group.old q.0 }
-    ensures { Joined group.old p.0 q.0 group.new }
-{
-    hang(group, p.0, q.0);
-}
-
 // The root of a cell's group. Each entry on the way is hung one step higher.
 pub fn find_cell(group: &mut [u16], c: Cell) -> Cell
     requires { (c.0 < length group.old) × Down group.old }

@@ -2,26 +2,54 @@
 ghost use Rattle.std.specs.Prelude.{◌≡◌, ◌*◌, ◌≤◌, length};
 ghost use Rattle.ground.specs.Record.{ground_in};
 ghost use Rattle.lake_list.specs.Rows.{FoundIn};
+ghost use Rattle.lake_stages.specs.Levels.{levels_on};
 ghost use Rattle.lists.specs.Lists.{overwrite};
 ghost use Rattle.record_stages.specs.Readable.{Readable};
 ghost use Rattle.rules.specs.Land.{land4, rule4};
-ghost use Rattle.rules.specs.Network.{carved_levels, lifted_network_of};
+ghost use Rattle.rules.specs.Network.{lifted_network_of};
 ghost use Rattle.rules.specs.Tile.{LawfulTile, tile_land};
+ghost use Rattle.stages.specs.Linking.{Linked};
 
+use grid::Neighbours;
 use lake_list::{Found, list_lakes};
 use record_stages::lift_record;
-use stages::level_sides;
-use walk::note_heights;
+use stages::link_sides;
+use walk::walk_links;
 
-// The levels of a tile with an outlet. Work space: that of the stages.
+// The levels of a tile whose cells are linked. Work space: 36 KB, taken only once the cells are linked.
+fn walk_levels(w: usize, heights: &[u32], marks: &[u8], links: &[u8], levels: &mut [u32])
+    requires lawful_tile { LawfulTile rule4 w heights.now marks.now × Linked rule4 w heights.now marks.now links.now }
+    requires heights_in_bounds { length heights.now ≤ length levels.old }
+    ensures { levels.new ≡ overwrite (levels_on (tile_land rule4 w heights.now marks.now)) levels.old }
+{
+    let mut stack = [0u32; 4096];
+    let mut order = [0u16; 4096];
+    let mut receivers = [0u16; 4096];
+    let mut wet = [0u8; 4096];
+    walk_links(
+        Neighbours::Four,
+        w,
+        heights,
+        marks,
+        links,
+        &mut stack,
+        &mut order,
+        &mut receivers,
+        levels,
+        &mut wet,
+    );
+}
+
+// The levels of a tile with an outlet. Work space: 12 KB, and that of linking or of walking.
 fn find_levels(w: usize, heights: &[u32], marks: &[u8], levels: &mut [u32])
     requires lawful_tile { LawfulTile rule4 w heights.now marks.now }
     requires heights_in_bounds { length heights.now ≤ length levels.old }
-    ensures { levels.new ≡ overwrite (carved_levels (tile_land rule4 w heights.now marks.now)) levels.old }
+    ensures { levels.new ≡ overwrite (levels_on (tile_land rule4 w heights.now marks.now)) levels.old }
 {
-    let n = heights.len();
-    note_heights(heights, levels);
-    level_sides(w, &mut levels[..n], marks);
+    let mut basins = [0u16; 4096];
+    let mut links = [0u8; 4226];
+    link_sides(w, heights, marks, &mut basins, &mut links);
+    walk_levels(w, heights, marks, &links, levels);
 }
 
 // The lakes of a tile with an outlet, or that one is too deep. Work space: 16 KB, and that of the levels or of listing.
@@ -29,7 +57,7 @@ pub fn tile_lakes(w: usize, heights: &[u32], marks: &[u8], rows: &mut [u64]) -> 
     requires lawful_tile { LawfulTile rule4 w heights.now marks.now }
     requires heights_in_bounds { 2 * length heights.now ≤ length rows.old }
     ensures { let L = tile_land rule4 w heights.now marks.now in
-        FoundIn L (carved_levels L) result rows.new }
+        FoundIn L (levels_on L) result rows.new }
 {
     let n = heights.len();
     let mut levels = [0u32; 4096];

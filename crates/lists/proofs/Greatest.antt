@@ -49,19 +49,13 @@ pub greatest-most : (l : List ℕ) {x : ℕ} → x ∈ l → x ≤ greatest l
 greatest-most l (in_head {x = y} {xs = ys} e) = let f = e in omega arith
 greatest-most l (in_Tail {x = y} {xs = ys} m) = let f : _ ≤ greatest ys = greatest-most ys m in omega arith
 
--- nor is an entry at any place
-pub greatest-at : (l : List ℕ) (k : ℕ) → at l k ≤ greatest l
-greatest-at [] k = omega arith
-greatest-at (x ∷ xs) zero = omega arith
-greatest-at (x ∷ xs) (suc k) = let h = greatest-at xs k in omega arith
-
 -- at most b exactly if each entry is
 pub greatest_bounds : (l : List ℕ) (b : ℕ) → greatest l ≤ b → (k : ℕ) → k < length l → at l k ≤ b
 greatest_bounds [] b h k m = absurd (not-suc-le-zero m)
 greatest_bounds (x ∷ xs) b h zero m = omega arith
 greatest_bounds (x ∷ xs) b h (suc k) m = greatest_bounds xs b (omega arith) k (le_of_suc-le-suc m)
 
-pub greatest_bounded : (l : List ℕ) (b : ℕ) → ((k : ℕ) → k < length l → at l k ≤ b) → greatest l ≤ b
+greatest_bounded : (l : List ℕ) (b : ℕ) → ((k : ℕ) → k < length l → at l k ≤ b) → greatest l ≤ b
 greatest_bounded [] b h = omega arith
 greatest_bounded (x ∷ xs) b h =
     let first : x ≤ b = h zero (omega arith) in

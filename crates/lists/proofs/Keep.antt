@@ -137,16 +137,3 @@ keep-map {A} {B} f t (x ∷ xs) = go (t (f x)) (keep-map f t xs)
         → map f (cond b (x ∷ keep (λ y. t (f y)) xs) (keep (λ y. t (f y)) xs)) ≡ cond b (f x ∷ keep t (map f xs)) (keep t (map f xs))
     go true e = ap (λ (l : List B). f x ∷ l) e
     go false e = e
-
--- tests that are never both met: no more pass than there are
-pub keep_apart : (p q : ℕ → Bool) (l : List ℕ) → ((x : ℕ) → x ∈ l → p x ≡ true → q x ≡ true → ⊥)
-    → length (keep p l) + length (keep q l) ≤ length l
-keep_apart p q [] f = omega arith
-keep_apart p q (x ∷ xs) f = go (known (p x)) (known (q x)) (keep_apart p q xs (λ y m. f y (in_Tail m)))
-  where
-    go : Known (p x) → Known (q x) → length (keep p xs) + length (keep q xs) ≤ length xs
-        → length (keep p (x ∷ xs)) + length (keep q (x ∷ xs)) ≤ length (x ∷ xs)
-    go (is a) (is b) ih = absurd (f x (in_head refl) a b)
-    go (is a) (isnt b) ih = rw (a, b) (omega (arith, ih))
-    go (isnt a) (is b) ih = rw (a, b) (omega (arith, ih))
-    go (isnt a) (isnt b) ih = rw (a, b) (omega (arith, ih))

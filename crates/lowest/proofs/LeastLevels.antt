@@ -3,29 +3,28 @@
 -- Assumes nothing.
 use mathlib.Core.Bool.{cond}
 use mathlib.Core.List.{List}
-use mathlib.Core.Logic.{inl, inr, ◌⊎◌}
 use mathlib.Core.Path.{refl, ◌≡◌}
 use Prim.Native.Nat.{ℕ, ◌%◌, ◌-◌, ◌<◌, ◌≤◌}
 use native.Mathlib.Omega.{arith}
 use lib.ListN.{length}
-use Rattle.first_receivers.proofs.LeastKeys.{least_of_fact, LeastOf}
+use Rattle.first_receivers.proofs.LeastKeys.{least_of_fact}
 use Rattle.first_receivers.proofs.OneKind.{kind_placed, OneKind}
 use Rattle.first_receivers.proofs.Taken.{or_cell, or_side}
 use Rattle.first_receivers.proofs.Weighing.{placed_mask}
 use Rattle.first_receivers.proofs.Winners.{Ways}
-use Rattle.first_receivers.specs.Weights.{first_is, itself, key, least_key, Placed}
+use Rattle.first_receivers.specs.Weights.{first_is, itself, least_key, Placed}
 use Rattle.grid.proofs.Rules.{places-around, rule_by_lem}
-use Rattle.grid.specs.Masks.{bit_of, mask_of}
+use Rattle.grid.specs.Masks.{mask_of}
 use Rattle.grid.specs.Neighbours.{places_by}
 use Rattle.grid.specs.Window.{around, cell_or, Rows}
 use Rattle.lists.proofs.Tests.{is, isnt, Known, known, same_ltb}
-use Rattle.lists.specs.Lists.{at, ◌∈◌}
-use Rattle.lowest.proofs.Columns.{asked_columns, columns_asked}
-use Rattle.lowest.specs.Lowest.{columns_by, lowest_rule}
+use Rattle.lists.specs.Lists.{at}
+use Rattle.lowest.specs.Lowest.{lowest_rule}
 use Rattle.rules.proofs.FirstReceivers.{first_outlet}
 use Rattle.rules.specs.FirstWays.{first_receiver}
 use Rattle.rules.specs.Ground.{is_outlet}
-use Rattle.rules.specs.Land.{Land}
+use Rattle.rules.specs.Land.{Land, rule_by}
+use Rattle.rules.specs.Sheet.{level_land}
 use Rattle.rules.specs.Tile.{tile_land}
 use Rattle.grid.specs.declared.Neighbours.{Neighbours}
 
@@ -62,26 +61,19 @@ module _ (N : Neighbours) (w : ℕ) (levels marks : List ℕ) (G : Rows w (lengt
       }
 
   abbrev least : ℕ
-  least = least_key levels (cell_or w n c) c (columns_by N)
-
-  -- the order of the places doesn't matter
-  least_any : LeastOf levels c (cell_or w n c) (places_by N) least
-  least_any = reordered (least_of_fact levels c (cell_or w n c) (columns_by N))
-    where
-      reordered : LeastOf levels c (cell_or w n c) (columns_by N) least → LeastOf levels c (cell_or w n c) (places_by N) least
-      reordered K = record { own = K.own; all = λ p m. K.all p (asked_columns N p m); is = which K.is }
-        where
-          which : (least ≡ key levels c 0) ⊎ ((p : ℕ) × (p ∈ columns_by N) × (least ≡ key levels (cell_or w n c p) (bit_of around p)))
-              → (least ≡ key levels c 0) ⊎ ((p : ℕ) × (p ∈ places_by N) × (least ≡ key levels (cell_or w n c p) (bit_of around p)))
-          which (inl e) = inl e
-          which (inr (p, m, e)) = inr (p, columns_asked N p m, e)
+  least = least_key levels (cell_or w n c) c (places_by N)
 
   least_placed : Known (is_outlet marks c) → Placed N w n c (first_receiver L c) (cond (is_outlet marks c) 0 (least % 256))
   least_placed (is t) = rw t (itself (first_outlet L c t) refl)
   least_placed (isnt t) =
       rw t
       (kind_placed marks ways t (cell_or w n c) one_kind N (λ p m. m) (λ p m. or_side G on p ((rule_by_lem N).within p m))
-      least_any)
+      (least_of_fact levels c (cell_or w n c) (places_by N)))
 
   pub least_mask : mask_of around w n (first_is L) c ≡ cond (is_outlet marks c) 0 (least % 256)
   least_mask = placed_mask N w n c G (first_receiver L) (cond (is_outlet marks c) 0 (least % 256)) (least_placed (known (is_outlet marks c)))
+
+-- the land of levels over a tile's land has the same lowest neighbours
+pub level-first : (N : Neighbours) (w : ℕ) (heights levels marks : List ℕ) → length levels ≡ length heights → (c : ℕ)
+    → first_receiver (level_land (tile_land (rule_by N) w heights marks) levels) c ≡ first_receiver (tile_land (lowest_rule N) w levels marks) c
+level-first N w heights levels marks e c = rw e

@@ -1,4 +1,3 @@
-pub mod Columns
 pub mod Margins
 pub mod LeastLevels
 pub mod Weighing

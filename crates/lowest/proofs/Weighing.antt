@@ -1,5 +1,5 @@
--- The weight of each cell by the levels with a margin is the mask of its lowest neighbour. Where a neighbour stands, the entry there is its level,
--- and the key is the neighbour's; elsewhere it is greater than the cell's own. So the least key is that of the cells on the tile.
+-- The weight of each cell by the levels with a margin is the mask of its lowest neighbour. Where its mask has a place's bit, the entry there is the
+-- neighbour's level, and the key is the neighbour's; elsewhere it is greater than the cell's own. So the least key is that of the cells on the tile.
 -- Assumes nothing.
 use mathlib.Core.Bool.{cond, false, true, ◌&&◌}
 use mathlib.Core.List.Memᴰ.{head as in_head}
@@ -11,21 +11,17 @@ use Prim.Native.Nat.{min, ℕ, ◌%◌, ◌+◌, ◌<◌, ◌≤◌}
 use native.Mathlib.Omega.{arith}
 use lib.ListN.{length, get_or-eq_default}
 use Rattle.first_receivers.specs.Weights.{first_is, key, least_key}
-use Rattle.grid.proofs.Corners.{each_around}
-use Rattle.grid.proofs.Rules.{around_rule, places-around, rule_by_lem, sides-asked, sides_rule}
-use Rattle.grid.proofs.Sides.{left_stands, right_stands, stands_left, stands_right}
-use Rattle.grid.proofs.Window.{on_stands, stands_beside, stands_on}
+use Rattle.grid.proofs.Rules.{places-around, rule_by_lem}
+use Rattle.grid.proofs.Window.{on_stands, stands_beside}
 use Rattle.grid.specs.Masks.{bit_of, joins_at, mask_of}
 use Rattle.grid.specs.Neighbours.{places_by}
-use Rattle.grid.specs.Window.{around, beside, cell_at, cell_or, on_tile, Rows, sides, Stands}
-use Rattle.lists.proofs.Any.{any_in}
+use Rattle.grid.specs.Window.{around, beside, cell_at, cell_or, on_tile, Rows}
 use Rattle.lists.proofs.Stretch.{stretch-length}
-use Rattle.lists.proofs.Tests.{and_left, is, isnt, Known, known, lt_or_ge}
+use Rattle.lists.proofs.Tests.{is, isnt, Known, known, lt_or_ge}
 use Rattle.lists.specs.Lists.{at, fold, stretch, ◌∈◌}
-use Rattle.lowest.proofs.Columns.{ColumnOn, columns_asked, entry_fits, past, stands_column}
 use Rattle.lowest.proofs.LeastLevels.{least_mask}
 use Rattle.lowest.proofs.Margins.{entry_stands, mask_bit, stretch-entry}
-use Rattle.lowest.specs.Lowest.{columns_by, entry_at, has_bit, has_column, key_of, Levelled, lowest_key, lowest_land, place_key, weight_at, Windowed}
+use Rattle.lowest.specs.Lowest.{entry_at, has_bit, key_of, Levelled, lowest_key, lowest_land, place_key, weight_at, Windowed}
 use Rattle.rules.specs.Ground.{is_outlet}
 use Rattle.grid.specs.declared.Neighbours.{Neighbours}
 
@@ -68,74 +64,34 @@ module _ {N : Neighbours} {w : ℕ} {masks levels marks : List ℕ} (A : Levelle
     pub windowed : Windowed levels w (c + 65)
     windowed = let narrow = A.grid.narrow in let room = A.margin in record { above = omega arith; below = omega arith }
 
-    -- the mask has the bit of a side exactly where the tile has the column there
-    side_on : (p : ℕ) → p ∈ sides → {d : ℕ} → Stands w n c p d → has_bit (at masks c) (bit_of around p) ≡ true
-    side_on p m S =
-        let t = stands_on S A.grid.rows in
-        let T = on_stands w n c p S.place A.grid.rows.wide t in
-        told p (places-around sides_rule p m) ∙ rw (t, stands_beside T (sides-asked N p m))
-
-    on_side : (p : ℕ) → p ∈ sides → has_bit (at masks c) (bit_of around p) ≡ true → Stands w n c p (cell_at w c p)
-    on_side p m h =
-        let i = places-around sides_rule p m in
-        on_stands w n c p (sides_rule.within p m) A.grid.rows.wide (and_left (on_tile w n c p) _ (sym (told p i) ∙ h))
-
-    left-has : 0 < c % w → has_bit (at masks c) 8 ≡ true
-    left-has h = side_on 3 (any_in refl) (left_stands A.grid.rows on h)
-
-    right-has : c % w + 1 < w → has_bit (at masks c) 16 ≡ true
-    right-has h = side_on 5 (any_in refl) (right_stands A.grid.rows on h)
-
-    has_column_lem : (p : ℕ) → p ∈ around → ColumnOn w c p → has_column (at masks c) p ≡ true
-    has_column_lem =
-        each_around (λ p. ColumnOn w c p → has_column (at masks c) p ≡ true) left-has (λ k. refl) right-has left-has right-has left-has (λ k. refl)
-        right-has
-
-    on_left : has_bit (at masks c) 8 ≡ true → 0 < c % w
-    on_left h = (stands_left A.grid.rows on (on_side 3 (any_in refl) h)).1
-
-    on_right : has_bit (at masks c) 16 ≡ true → c % w + 1 < w
-    on_right h = (stands_right A.grid.rows on (on_side 5 (any_in refl) h)).1
-
-    column_on : (p : ℕ) → p ∈ around → has_column (at masks c) p ≡ true → ColumnOn w c p
-    column_on =
-        each_around (λ p. has_column (at masks c) p ≡ true → ColumnOn w c p) on_left (λ h. tt) on_right on_left on_right on_left (λ h. tt) on_right
-
     -- the keys by entries and by the cells that are taken for the places
     abbrev by_entry : ℕ → ℕ
-    by_entry p = place_key levels w (c + 65) (at masks c) p
+    by_entry p = place_key levels (at masks c) (entry_at w (c + 65) p) (bit_of around p)
 
     abbrev by_cell : ℕ → ℕ
     by_cell p = key own (cell_or w n c p) (bit_of around p)
 
-    -- where the tile has the column and not the place, the entry is past the tile
-    past_key : (p : ℕ) → p ∈ around → on_tile w n c p ≡ false → has_column (at masks c) p ≡ true → at levels (entry_at w (c + 65) p) ≡ 16777215
-    past_key p i gone h =
-        let fits = entry_fits A.grid.rows A.grid.narrow on p i in
-        let room = A.margin in
-        A.edge (entry_at w (c + 65) p) (past A.grid.rows A.grid.narrow on p i (column_on p i h) gone) (omega arith)
-
-    agree : (p : ℕ) → p ∈ columns_by N → Known (on_tile w n c p) → Known (has_column (at masks c) p)
+    agree : (p : ℕ) → p ∈ places_by N → Known (on_tile w n c p)
         → (by_entry p ≡ by_cell p) ⊎ ((key own c 0 ≤ by_entry p) × (key own c 0 ≤ by_cell p))
-    agree p m (is t) k =
-        let i = places-around (rule_by_lem N) p (columns_asked N p m) in
-        let S = on_stands w n c p (around_rule.within p i) A.grid.rows.wide t in
+    agree p m (is t) =
+        let i = places-around (rule_by_lem N) p m in
+        let S = on_stands w n c p ((rule_by_lem N).within p m) A.grid.rows.wide t in
+        let b : on_tile w n c p && beside (places_by N) w c (cell_at w c p) ≡ true = rw (t, stands_beside S m) in
         let e : at levels (entry_at w (c + 65) p) ≡ at own (cell_at w c p) =
         ap (at levels) (entry_stands p (cell_at w c p) i S) ∙ sym (stretch-entry levels n (cell_at w c p) S.on) in
         let l = low (cell_at w c p) in
-        inl (rw (has_column_lem p i (stands_column A.grid.rows A.grid.narrow on p i S), t) (omega arith))
-    agree p m (isnt t) (is h) =
-        let e = past_key p (places-around (rule_by_lem N) p (columns_asked N p m)) t h in
+        inl (rw (told p i ∙ b, t) (omega arith))
+    agree p m (isnt t) =
+        let i = places-around (rule_by_lem N) p m in
+        let b : on_tile w n c p && beside (places_by N) w c (cell_at w c p) ≡ false = rw t in
         let l = low c in
-        inr (rw h (omega arith), rw t (omega arith))
-    agree p m (isnt t) (isnt h) = let l = low c in inr (rw h (omega arith), rw t (omega arith))
+        inr (rw (told p i ∙ b) (omega arith), rw t (omega arith))
 
-    lowest-is : lowest_key N levels w (c + 65) (at masks c) ≡ least_key own (cell_or w n c) c (columns_by N)
+    lowest-is : lowest_key levels w (c + 65) (at masks c) (places_by N) ≡ least_key own (cell_or w n c) c (places_by N)
     unfolding lowest_key
     lowest-is =
-        ap (λ (k : ℕ). fold (λ j p. min j (by_entry p)) k (columns_by N)) start
-        ∙ fold-least by_entry by_cell (key own c 0) (key own c 0) (columns_by N) (omega arith)
-        (λ p m. agree p m (known (on_tile w n c p)) (known (has_column (at masks c) p)))
+        ap (λ (k : ℕ). fold (λ j p. min j (by_entry p)) k (places_by N)) start
+        ∙ fold-least by_entry by_cell (key own c 0) (key own c 0) (places_by N) (omega arith) (λ p m. agree p m (known (on_tile w n c p)))
       where
         start : key_of (at levels (c + 65)) 0 ≡ key own c 0
         start = let e = stretch-entry levels n c on in let l = low c in omega arith
@@ -146,5 +102,5 @@ module _ {N : Neighbours} {w : ℕ} {masks levels marks : List ℕ} (A : Levelle
         ap (λ (k : ℕ). cond (is_outlet marks c) 0 (k % 256)) lowest-is
         ∙ sym (subst
         (λ (k : ℕ). mask_of around w k (first_is (lowest_land N w n levels marks)) c
-        ≡ cond (is_outlet marks c) 0 (least_key own (cell_or w k c) c (columns_by N) % 256))
+        ≡ cond (is_outlet marks c) 0 (least_key own (cell_or w k c) c (places_by N) % 256))
         sized (least_mask N w own marks (subst (Rows w) (sym sized) A.grid.rows) low c (rw sized on)))

@@ -16,7 +16,7 @@ use rules::is_outlet;
 // So many entries stand before and after the levels, so that every cell has eight entries around it.
 const MARGIN: usize = 65;
 
-// The key of a column that the tile does not have: greater than every other.
+// The key of a place without a neighbour: greater than every other.
 const NO_KEY: u32 = 4_294_967_295;
 
 // A mask as a number that keys are made with.
@@ -41,44 +41,53 @@ fn key_of(level: u32, bit: u32) -> u32
     256 * (level % 16_777_216) + bit
 }
 
-// The least key of a column beside a cell's own, by its entries and their bits; with four neighbours the key of its side.
-fn column_key(
-    neighbours: Neighbours,
-    levels: &[u32],
-    above: usize,
-    beside: usize,
-    below: usize,
-    upper: u32,
-    side: u32,
-    lower: u32,
-) -> u32
-    requires above_in_bounds { (above < length levels.now) × (beside < length levels.now) × (below < length levels.now) }
-    requires upper_bound { (upper < 256) × (side < 256) × (lower < 256) }
-    ensures { result ≡ S.column_key neighbours levels.now above beside below upper side lower }
+// The key at the place of this bit, where entry d stands.
+fn place_key(levels: &[u32], mask: u32, d: usize, bit: u32) -> u32
+    requires { (d < length levels.now) × (0 < bit) × (bit < 256) }
+    ensures { result ≡ S.place_key levels.now mask d bit }
 {
-    let own = key_of(levels[beside], side);
-    match neighbours {
-        Neighbours::Four => own,
-        Neighbours::Eight => {
-            let higher = least_u32(own, key_of(levels[above], upper));
-            least_u32(higher, key_of(levels[below], lower))
-        }
-    }
+    either(mask / bit % 2 == 1, key_of(levels[d], bit), NO_KEY)
 }
 
-// The least key of entry i and of its neighbours. Whether the tile has a column beside the cell's own is asked once for each; past its first and
-// last row stand entries that are never the least.
+// The least of a key and of those at three places in a row: entry d is in the middle, and the left one has this bit.
+fn row_key(levels: &[u32], mask: u32, least: u32, d: usize, bit: u32) -> u32
+    requires { (0 < d) × (d + 1 < length levels.now) × (0 < bit) × (bit ≤ 32) }
+    ensures { let of = S.place_key levels.now mask in
+        result ≡ min (min (min least (of (d - 1) bit)) (of d (2 * bit))) (of (d + 1) (4 * bit)) }
+{
+    let k1 = least_u32(least, place_key(levels, mask, d - 1, bit));
+    let k2 = least_u32(k1, place_key(levels, mask, d, 2 * bit));
+    least_u32(k2, place_key(levels, mask, d + 1, 4 * bit))
+}
+
+// The least of a key and of those to the left and to the right of entry i.
+fn beside_key(levels: &[u32], mask: u32, least: u32, i: usize) -> u32
+    requires { (0 < i) × (i + 1 < length levels.now) }
+    ensures { let of = S.place_key levels.now mask in
+        result ≡ min (min least (of (i - 1) 8)) (of (i + 1) 16) }
+{
+    let k1 = least_u32(least, place_key(levels, mask, i - 1, 8));
+    least_u32(k1, place_key(levels, mask, i + 1, 16))
+}
+
+// The least key of entry i and of its neighbours, by ascending number.
 fn lowest_key(neighbours: Neighbours, w: usize, levels: &[u32], i: usize, mask: u32) -> u32
     requires { S.Windowed levels.now w i }
-    ensures { result ≡ S.lowest_key neighbours levels.now w i mask }
+    ensures { result ≡ S.lowest_key levels.now w i mask (places_by neighbours) }
 {
     let own = key_of(levels[i], 0);
-    let higher = least_u32(own, key_of(levels[i - w], 2));
-    let middle = least_u32(higher, key_of(levels[i + w], 64));
-    let left = column_key(neighbours, levels, i - w - 1, i - 1, i + w - 1, 1, 8, 32);
-    let right = column_key(neighbours, levels, i - w + 1, i + 1, i + w + 1, 4, 16, 128);
-    let lefter = least_u32(middle, either(mask / 8 % 2 == 1, left, NO_KEY));
-    least_u32(lefter, either(mask / 16 % 2 == 1, right, NO_KEY))
+    match neighbours {
+        Neighbours::Four => {
+            let above = least_u32(own, place_key(levels, mask, i - w, 2));
+            let middle = beside_key(levels, mask, above, i);
+            least_u32(middle, place_key(levels, mask, i + w, 64))
+        }
+        Neighbours::Eight => {
+            let above = row_key(levels, mask, own, i - w, 1);
+            let middle = beside_key(levels, mask, above, i);
+            row_key(levels, mask, middle, i + w, 32)
+        }
+    }
 }
 
 // The weight of entry i. All is read before the test.

@@ -1,23 +1,22 @@
--- The links of a manner: any two outcomes that the contract in src/ allows are equal at each cell, but for what stands beside the cells' masks.
+-- The walk in the manner asked for: any two outcomes that the contract in src/ allows are equal, but for the cells' places of the stack and for
+-- the links, which are work space once they are walked.
 -- Assumes nothing.
 use mathlib.Core.Path.{refl}
-use native.Mathlib.Omega.{arith}
 use lib.ListN.{drop, length}
 use Rattle.lists.proofs.Determined.{one_answer}
-use Rattle.lists.proofs.Tab.{tab_same}
 use Rattle.lists.specs.Contract.{OneOutcome}
-use Rattle.lists.specs.Lists.{at, tab}
-use Rattle.manners.proofs.Walks.{ground_long}
-use Rattle.manners.proofs.link_by.Kinds as link-by-kinds
-use Rattle.manners.proofs.link_by.Reads as link-by
+use Rattle.walk.specs.Walk.{lent}
+use Rattle.manners.proofs.walk_by.Kinds as walk-by-kinds
+use Rattle.manners.proofs.walk_by.Reads as walk-by
 
--- the mask of each cell
-pub link_by-one : OneOutcome 3 link-by-kinds.ps link-by-kinds.r link-by.Asked link-by.Learnt
-    (λ κs a r e. tab (length a.1.1.1.0.now) (at (drop 65 e.1.1.1.1.1.0.now)))
-link_by-one κs a p r r' e e' x y =
-    let (heights, T, K) = p.0 in
-    let long = ground_long a.0 a.1.0 a.1.1.0 heights a.1.1.1.1.0.now a.1.1.1.0.now a.1.1.1.1.1.0.now K in (
-      refl,
-      tab_same _ _ (length a.1.1.1.0.now)
-          (λ c h. one_answer ((x heights T K).inside.masks c (omega (arith, long))) ((y heights T K).inside.masks c (omega (arith, long)))),
-    )
+-- what is past the cells' places on the stack, order, receivers, levels and wet
+pub walk_by-one : OneOutcome 8 walk-by-kinds.ps walk-by-kinds.r walk-by.Asked walk-by.Learnt
+    (λ κs a r e. lent (drop (length a.1.1.1.0.now) e.1.1.1.1.1.1.0.now) e.1.1.1.1.1.1.1.0.now
+    e.1.1.1.1.1.1.1.1.0.now e.1.1.1.1.1.1.1.1.1.0.now e.1.1.1.1.1.1.1.1.1.1.0.now)
+walk_by-one κs a p r r' e e' x y =
+    let past = one_answer x.past y.past in
+    let order = one_answer x.order_is y.order_is in
+    let receivers = one_answer x.receivers_are y.receivers_are in
+    let levels = one_answer x.levels_are y.levels_are in
+    let wets = one_answer x.wets_are y.wets_are in
+    (refl, λ i. lent (past i) (order i) (receivers i) (levels i) (wets i))

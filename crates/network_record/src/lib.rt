@@ -10,8 +10,6 @@ ghost use Rattle.network_record.specs.RecordCall.{answer_to, CalledBy, network_r
 ghost use Rattle.record_stages.specs.LinkedRecord.{LinkedRecord};
 ghost use Rattle.record_stages.specs.Readable.{Readable};
 ghost use Rattle.rules.specs.Network.{lifted_network_by};
-ghost use Rattle.rules.specs.declared.Manner.{Manner};
-ghost use Rattle.rules.specs.declared.Manner.TheVariants.{Carve};
 
 use grid::Neighbours;
 use ground::{Judged, Room};
@@ -19,24 +17,25 @@ use network_bytes::write_network;
 use record_stages::{link_record, walk_record};
 use rules::Manner;
 
-// The network record of a ground record whose cells are linked, in the manner that they are linked in. Work space: 52 KB, taken only once the
-// cells are linked.
+// The network record of a ground record whose cells are linked. Work space: 52 KB, taken only once the cells are linked, and that of a sheet;
+// the links are work space too.
 fn write_linked(
     neighbours: Neighbours,
+    manner: Manner,
     bytes: &[u8],
     width: u16,
     height: u16,
     lifted: &[u32],
     basins: &[u16],
-    links: &[u8],
+    links: &mut [u8],
     network: &mut [u8],
 )
     requires readable { Readable bytes.now width height }
-    requires linked_record { (M : Manner) × LinkedRecord neighbours M bytes.now width height lifted.now links.now }
-    requires basins_value { take (height * width) basins.now ≡ (lifted_network_by neighbours Carve (ground_in bytes.now width height)).basins }
+    requires linked_record { LinkedRecord neighbours bytes.now width height lifted.now links.old × (length links.old ≡ 4226) }
+    requires basins_value { take (height * width) basins.now ≡ (lifted_network_by neighbours manner (ground_in bytes.now width height)).basins }
     requires width_in_bounds { network_bytes (height * width) ≤ length network.old }
-    ensures { (M : Manner) → LinkedRecord neighbours M bytes.now width height lifted.now links.now
-        → network.new ≡ overwrite (network_record_by neighbours M (ground_in bytes.now width height)) network.old }
+    ensures { network.new
+        ≡ overwrite (network_record_by neighbours manner (ground_in bytes.now width height)) network.old }
 {
     let mut receivers = [0u16; 4096];
     let mut order = [0u16; 4096];
@@ -45,6 +44,7 @@ fn write_linked(
     let mut wet = [0u8; 4096];
     walk_record(
         neighbours,
+        manner,
         bytes,
         width,
         height,
@@ -80,7 +80,6 @@ fn write_accepted(
     let mut links = [0u8; 4226];
     link_record(
         neighbours,
-        manner,
         bytes,
         width,
         height,
@@ -89,7 +88,7 @@ fn write_accepted(
         &mut links,
     );
     write_linked(
-        neighbours, bytes, width, height, &lifted, &basins, &links, network,
+        neighbours, manner, bytes, width, height, &lifted, &basins, &mut links, network,
     );
 }
 

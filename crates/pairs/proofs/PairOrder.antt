@@ -14,11 +14,10 @@ use lib.ListN.{length}
 use Rattle.grid.proofs.Window.{stands_less, stands_place}
 use Rattle.grid.specs.Window.{place_of, Stands}
 use Rattle.lists.proofs.Ascending.{ascending_rises}
-use Rattle.lists.proofs.At.{at_member}
 use Rattle.lists.proofs.Map.{map_holds, map_member}
 use Rattle.lists.proofs.Tests.{eq, eq_or_ne, gt, lt, lt_or_ge, Three, three}
 use Rattle.lists.specs.Ascending.{AscendingBy, Rising, rising_next}
-use Rattle.lists.specs.Lists.{at, ◌∈◌}
+use Rattle.lists.specs.Lists.{◌∈◌}
 use Rattle.pairs.proofs.Pairs.{pair_small}
 use Rattle.pairs.specs.Pairs.{crossing_of, greater_of, IsPair, lesser_of, most_pairs, pair_height, pair_key, Pairs, place_in}
 use Rattle.rules.proofs.CrossingOrder.{by_greater, by_height, by_lesser, Less, Less→less}
@@ -112,13 +111,3 @@ module _ (R : Rule) (w : ℕ) (heights marks : List ℕ) (T : Tile w heights mar
       moved a b h x m =
           let (p, i, e) = map_member cross a m in
           subst (λ (z : Crossing). z ∈ map cross b) (sym e) (map_holds cross (h p i))
-
--- pairs that ascend by height and number never fall
-pub pairs_climb : (w : ℕ) (heights s : List ℕ) → length heights ≤ 4096 → Pairs w (length heights) s → AscendingBy (pair_key w heights) s
-    → (i j : ℕ) → i < j → j < length s → pair_height w heights (at s i) ≤ pair_height w heights (at s j)
-pairs_climb w heights s few near a i j l k = go (lt_or_ge (pair_height w heights (at s j)) (pair_height w heights (at s i)))
-  where
-    go : (pair_height w heights (at s j) < pair_height w heights (at s i)) ⊎ (pair_height w heights (at s i) ≤ pair_height w heights (at s j))
-        → pair_height w heights (at s i) ≤ pair_height w heights (at s j)
-    go (inl h) = absurd (omega (arith, a i j l k, digits_lt h (pair_small w (length heights) (at s j) (near (at s j) (at_member s j k)) few)))
-    go (inr h) = h

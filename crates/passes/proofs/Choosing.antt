@@ -1,11 +1,12 @@
--- Listed and sorted, pairs are ordered as picking asks, and the picked ones are the chosen passes; no other list of pairs is one.
+-- Listed, sorted, picked: what each asks is what the one before gives, and together they give the chosen passes; no other list of pairs
+-- is one.
 -- Assumes nothing.
 use mathlib.Core.List.{List, ◌++◌}
 use mathlib.Core.Path.{ap, refl, ◌∙◌, ◌≡◌}
 use Prim.Native.Nat.{ℕ, ◌<◌, ◌≤◌}
 use native.Mathlib.Omega.{arith}
 use lib.ListN.{drop, length, length-append, take}
-use lib.Seq.{length-take-le, take_at}
+use lib.Seq.{length-take-le, take-append-le, take_at}
 use Rattle.lists.proofs.Keep.{keep-map, keep_member}
 use Rattle.lists.proofs.Map.{map-one}
 use Rattle.lists.proofs.Tab.{tab-at, tab-length}
@@ -13,7 +14,7 @@ use Rattle.lists.specs.Lists.{at, keep}
 use Rattle.pairs.proofs.PairOrder.{pair_one, sorted_enough}
 use Rattle.pairs.specs.Pairs.{crossing_of, Pairs}
 use Rattle.passes.proofs.IsChosen.{enough_chosen}
-use Rattle.passes.specs.Choosing.{Choosable, ChosenPairs, OrderedPairs}
+use Rattle.passes.specs.Choosing.{Choosable, ChosenPairs}
 use Rattle.passes.specs.Picking.{is_chosen, Pickable, Picked}
 use Rattle.rules.proofs.EnoughCrossings.{all-chosen_same}
 use Rattle.rules.proofs.NodeLabels.{label_small, labels_tell}
@@ -60,8 +61,8 @@ module _ {N : Neighbours} {w : ℕ} {heights marks labels list : List ℕ} (C : 
       sorted_part : take k (s ++ drop k l₁) ≡ s
       sorted_part = take_at s (drop k l₁) k (kept ∙ long_listed)
 
-      pub room_sorted : k ≤ length (s ++ drop k l₁)
-      room_sorted = omega (arith, kept, long_listed, length-append s (drop k l₁))
+      pub long_sorted : length (take k (s ++ drop k l₁)) ≡ k
+      long_sorted = ap length sorted_part ∙ kept ∙ long_listed
 
       neighbours : Pairs w (length heights) s
       neighbours p m = P.neighbours p (S.only p m)
@@ -84,21 +85,28 @@ module _ {N : Neighbours} {w : ℕ} {heights marks labels list : List ℕ} (C : 
                 S.ascending;
           }
 
-      pub ordered : OrderedPairs N w heights marks labels (take k (s ++ drop k l₁))
-      ordered = rw sorted_part (record { pickable = sorted_pickable; neighbours = neighbours; ascending = S.ascending })
+      pub pickable : Pickable (crossing_of w) (tile_land (rule_by N) w heights marks) labels (take k (s ++ drop k l₁))
+      pickable = rw sorted_part sorted_pickable
 
--- of ordered pairs the picked ones, once m are picked
-module _ {N : Neighbours} {w : ℕ} {heights marks labels s : List ℕ} (O : OrderedPairs N w heights marks labels s) {t : List ℕ} {m : ℕ}
-    (Q : Picked (crossing_of w) (tile_land (rule_by N) w heights marks) s t m) where
-  abbrev land : Land
-  land = tile_land (rule_by N) w heights marks
+      -- t is that part once m pairs of it are picked
+      module _ {t : List ℕ} {m : ℕ} (Q : Picked (crossing_of w) (tile_land (rule_by N) w heights marks) (take k (s ++ drop k l₁)) t m)
+          (long-t : length t ≡ length (take k (s ++ drop k l₁))) where
+        pub chosen_room : m ≤ length (t ++ drop k (s ++ drop k l₁))
+        chosen_room = omega (arith, Q.within, long-t, length-append t (drop k (s ++ drop k l₁)))
 
-  pub chosen-pairs : ChosenPairs N w heights marks (take m t)
-  chosen-pairs =
-      rw Q.kept (record {
-        chosen = rw (keep-map (crossing_of w) (is_chosen land) s) (enough_chosen land O.pickable.enough);
-        neighbours = λ p i. O.neighbours p (keep_member (λ q. is_chosen land (crossing_of w q)) s i).0;
-      })
+        -- the picked pairs are those of the sorted ones that are chosen
+        picked : take m (t ++ drop k (s ++ drop k l₁)) ≡ keep (λ p. is_chosen L (crossing_of w p)) s
+        picked =
+            take-append-le m t (drop k (s ++ drop k l₁)) (omega (arith, Q.within, long-t))
+            ∙ Q.kept
+            ∙ ap (keep (λ p. is_chosen L (crossing_of w p))) sorted_part
+
+        pub chosen-pairs : ChosenPairs N w heights marks (take m (t ++ drop k (s ++ drop k l₁)))
+        chosen-pairs =
+            rw picked (record {
+              chosen = rw (keep-map (crossing_of w) (is_chosen L) s) (enough_chosen L sorted_pickable.enough);
+              neighbours = λ p i. neighbours p (keep_member (λ q. is_chosen L (crossing_of w q)) s i).0;
+            })
 
 -- a tile's chosen passes are one list of pairs: they have one order, and a crossing has one pair
 pub chose_same : {N : Neighbours} {w : ℕ} {heights marks a b : List ℕ} → ChosenPairs N w heights marks a

@@ -30,7 +30,7 @@ use Rattle.rules.specs.Land.{Land}
 use Rattle.rules.specs.Passes.{Crossing, crossings, edges, node}
 
 -- what is read as a crossing, as an edge between its two cells, and between their labels
-abbrev pub cell_edges : {A : Type 0} → (A → Crossing) → Edges A
+abbrev cell_edges : {A : Type 0} → (A → Crossing) → Edges A
 cell_edges cross = record { one = λ p. (cross p).lesser; other = λ p. (cross p).greater }
 
 abbrev pub label_edges : (ℕ → Crossing) → List ℕ → Edges ℕ
@@ -45,7 +45,7 @@ module _ {cross : ℕ → Crossing} {L : Land} {labels list : List ℕ} (P : Pic
   On c = c < length labels
 
   -- the two cells of a crossing
-  pub ends_on : (x : Crossing) → x ∈ crossings L → On x.lesser × On x.greater
+  ends_on : (x : Crossing) → x ∈ crossings L → On x.lesser × On x.greater
   ends_on x m = let C = crosses L x m in rw P.cells (C.on_lo, C.on_hi)
 
   pub label_in_lem : (c : ℕ) → On c → at labels c < length (upto 4097)

@@ -2,5 +2,4 @@ pub mod IsChosen
 pub mod JoinsChosen
 pub mod PickTurns
 pub mod Choosing
-pub mod Levels
 pub mod OneOutcome

@@ -93,6 +93,6 @@ module _ {cross : ℕ → Crossing} {labels list₀ : List ℕ} {m i : ℕ} {g l
   pub picking_all : i ≡ length list₀ → (L : Land) → Pickable cross L labels list₀ → Picked cross L list₀ list m
   picking_all e L P =
       record {
-        within = omega (arith, Q.behind, Q.long);
+        within = omega (arith, Q.behind);
         kept = Q.picked L P ∙ ap (keep (λ p. is_chosen L (cross p))) (ap (λ (n : ℕ). take n list₀) e ∙ take-length list₀);
       }

@@ -2,9 +2,7 @@
 -- Assumes nothing.
 use Rattle.std.specs.Prelude.{List, map, ◌≡◌, ℕ, ◌≤◌, length, take}
 use Rattle.lists.specs.Lists.{tab}
-use Rattle.lists.specs.Ascending.{AscendingBy}
-use Rattle.pairs.specs.Pairs.{crossing_of, pair_key, Pairs}
-use Rattle.passes.specs.Picking.{Pickable}
+use Rattle.pairs.specs.Pairs.{crossing_of, Pairs}
 use Rattle.rules.specs.Enough.{AllChosen}
 use Rattle.rules.specs.Land.{rule_by}
 use Rattle.rules.specs.NodeLabels.{label_of}
@@ -25,13 +23,7 @@ pub record ChosenPairs (N : Neighbours) (w : ℕ) (heights marks pairs : List �
   pub chosen : AllChosen (tile_land (rule_by N) w heights marks) (map (crossing_of w) pairs)
   pub neighbours : Pairs w (length heights) pairs
 
--- pairs in the order of rule 3 that are enough to find the chosen passes by
-pub record OrderedPairs (N : Neighbours) (w : ℕ) (heights marks labels pairs : List ℕ) : Type 0 where
-  pub pickable : Pickable (crossing_of w) (tile_land (rule_by N) w heights marks) labels pairs
-  pub neighbours : Pairs w (length heights) pairs
-  pub ascending : AscendingBy (pair_key w heights) pairs
-
--- what `order_pairs` promises: the first r entries are such pairs, of whatever tile with these heights and labels
-pub record PairsOrdered (N : Neighbours) (w : ℕ) (heights labels before : List ℕ) (r : ℕ) (after : List ℕ) : Type 0 where
+-- what `choose_pairs` promises: the first r entries are the pairs of the chosen passes, of whatever tile with these heights and labels
+pub record PairsChosen (N : Neighbours) (w : ℕ) (heights labels before : List ℕ) (r : ℕ) (after : List ℕ) : Type 0 where
   pub within : r ≤ length after
-  pub pairs : (marks : List ℕ) → Choosable N w heights marks labels before → OrderedPairs N w heights marks labels (take r after)
+  pub pairs : (marks : List ℕ) → Choosable N w heights marks labels before → ChosenPairs N w heights marks (take r after)

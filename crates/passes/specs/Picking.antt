@@ -21,5 +21,5 @@ pub record Pickable (cross : ℕ → Crossing) (L : Land) (labels list : List �
 
 -- the first m entries are the pairs of the chosen passes, in the list's order
 pub record Picked (cross : ℕ → Crossing) (L : Land) (list list' : List ℕ) (m : ℕ) : Type 0 where
-  pub within : m ≤ length list'
+  pub within : m ≤ length list
   pub kept : take m list' ≡ keep (λ p. is_chosen L (cross p)) list

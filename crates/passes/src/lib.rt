@@ -1,15 +1,19 @@
-// Rule 4: from pairs that are enough crossings, in order, to the pairs of the chosen passes: one is a chosen pass where it joins two groups of
-// labels. All outlet basins have one label, so they count as joined from the start.
+// Rules 3 and 4: from a tile and its labels to the pairs of its chosen passes. Of pairs that are enough crossings in order, one is a chosen
+// pass where it joins two groups of labels. All outlet basins have one label, so they count as joined from the start.
 ghost use Rattle.std.specs.Prelude.{List, ◌≡◌, ℕ, ◌<◌, ◌≤◌, length};
 ghost use Rattle.groups.specs.Groups.{Down, Joined, two_groups};
 ghost use Rattle.lists.specs.Lists.{at, upto};
 ghost use Rattle.pairs.specs.Pairs.{crossing_of, greater_of, lesser_of};
+ghost use Rattle.passes.specs.Choosing.{Choosable, PairsChosen};
 ghost use Rattle.passes.specs.Picking.{Pickable, Picked};
 ghost use Rattle.rules.specs.Land.{Land};
 
+use grid::Neighbours;
 use groups::{alone, unite};
 use kinds::Basin;
 use pairs::{greater, lesser};
+use sorting::sort_pairs;
+use squares::list_pairs;
 
 // The groups of a pair's two labels become one. Gives 1 where they were two, and 0 where they were one already.
 fn join(w: usize, labels: &[u16], p: u16, group: &mut [u16]) -> u8
@@ -49,7 +53,7 @@ fn pick_along(w: usize, labels: &[u16], group: &mut [u16], list: &mut [u16]) -> 
 }
 
 // The pairs of the chosen passes, in their order, at the start of the list. Gives their number.
-pub fn pick(w: usize, labels: &[u16], list: &mut [u16]) -> usize
+fn pick(w: usize, labels: &[u16], list: &mut [u16]) -> usize
     requires { (0 < w) × (w ≤ 64) × ((L : Land) × Pickable (crossing_of w) L labels.now list.old) }
     ensures { (L : Land) → Pickable (crossing_of w) L labels.now list.old
         → Picked (crossing_of w) L list.old list.new result }
@@ -57,4 +61,22 @@ pub fn pick(w: usize, labels: &[u16], list: &mut [u16]) -> usize
     let mut group = [0u16; 4097];
     alone(&mut group);
     pick_along(w, labels, &mut group, list)
+}
+
+// The pairs of the chosen passes of a tile, in the order of rule 3, at the start of the list. Gives their number. The spare list is work space.
+pub fn choose_pairs(
+    neighbours: Neighbours,
+    w: usize,
+    heights: &[u32],
+    labels: &[u16],
+    list: &mut [u16],
+    spare: &mut [u32],
+) -> usize
+    requires by_index { (marks : List ℕ) × Choosable neighbours w heights.now marks labels.now list.old }
+    requires list_in_bounds { length list.old ≤ length spare.old }
+    ensures { PairsChosen neighbours w heights.now labels.now list.old result list.new }
+{
+    let count = list_pairs(neighbours, w, heights, labels, list);
+    sort_pairs(w, heights, &mut list[..count], spare);
+    pick(w, labels, &mut list[..count])
 }

@@ -1,18 +1,16 @@
 -- A record's lifted heights and its marks, read, are a tile whose land is that of its ground: what the stages leave of the one is
 -- said of the other.
 -- Assumes nothing.
-use mathlib.Core.List.{List, map, ◌++◌}
+use mathlib.Core.List.{List, map}
 use mathlib.Core.Path.{ap, subst, sym, ◌∙◌, ◌≡◌}
-use Prim.Native.Nat.{ℕ, ◌*◌, ◌-◌, ◌≤◌}
-use lib.ListN.{drop, length, take}
-use lib.Seq.{length-take-le, take_at}
+use Prim.Native.Nat.{ℕ, ◌*◌, ◌-◌}
+use lib.ListN.{length, take}
 use Rattle.ground.specs.Good.{Good}
 use Rattle.ground.specs.Record.{ground_in}
 use Rattle.lists.specs.Lists.{filled, overwrite, stretch}
 use Rattle.network.proofs.Grounds.{good_tile, lifted_full}
 use Rattle.network.proofs.Networks.{tile-is-land}
-use Rattle.record_stages.proofs.Reading.{heights_are, marks_are, water-here}
-use Rattle.record_stages.specs.Lifted.{LiftedAgain}
+use Rattle.record_stages.proofs.Reading.{marks_are, water-here}
 use Rattle.record_stages.specs.LinkedRecord.{LinkedRecord}
 use Rattle.rules.specs.FirstWays.{basin}
 use Rattle.rules.specs.Ground.{Ground, lifted}
@@ -20,10 +18,10 @@ use Rattle.rules.specs.Land.{Land, land_by, rule_by}
 use Rattle.rules.specs.Network.{lifted_network_by, lifted_network_in}
 use Rattle.rules.specs.Tile.{LawfulTile, tile_land}
 use Rattle.sections.specs.LittleEndian.{numbers_at}
-use Rattle.stages.specs.Linking.{LinksOf, Stays}
+use Rattle.stages.specs.Linking.{Linked}
 use Rattle.grid.specs.declared.Neighbours.{Neighbours}
 use Rattle.rules.specs.declared.Manner.{Manner}
-use Rattle.rules.specs.declared.Manner.TheVariants.{Carve, Sheet}
+use Rattle.rules.specs.declared.Manner.TheVariants.{Carve}
 
 module _ (N : Neighbours) (s : List ℕ) (w h : ℕ) (G : Good (ground_in s w h)) (n : ℕ) (z : n ≡ h * w) where
   abbrev g : Ground
@@ -64,30 +62,21 @@ module _ (N : Neighbours) (s : List ℕ) (w h : ℕ) (G : Good (ground_in s w h)
     read_basins {b} basins e = subst (λ (L : Land). b ≡ filled (basin L) L.cells basins) read_land e
 
     -- links of the tile are links of the record
-    pub linked_record : (M : Manner) {links : List ℕ} → LinksOf N M w (take n heights) (stretch (4 * n) (5 * n - 4 * n) s) links
-        → LinkedRecord N M s w h heights links
-    linked_record M {links} K =
+    pub linked_record : {links : List ℕ} → Linked (rule_by N) w (take n heights) (stretch (4 * n) (5 * n - 4 * n) s) links → LinkedRecord N s w h heights links
+    linked_record {links} K =
         record {
           heights_are = subst (λ (k : ℕ). take k heights ≡ map lifted g.heights) z t;
           linked =
-              subst (λ (l : List ℕ). LinksOf N M w (map lifted g.heights) l links) (marks_are s w h G n z)
-              (subst (λ (l : List ℕ). LinksOf N M w l marks links) t K);
+              subst (λ (l : List ℕ). Linked (rule_by N) w (map lifted g.heights) l links) (marks_are s w h G n z)
+              (subst (λ (l : List ℕ). Linked (rule_by N) w l marks links) t K);
         }
 
   -- and back
-  module _ {M : Manner} {heights links : List ℕ} (R : LinkedRecord N M s w h heights links) where
+  module _ {heights links : List ℕ} (R : LinkedRecord N s w h heights links) where
     pub heights_here : take n heights ≡ map lifted (ground_in s w h).heights
     heights_here = subst (λ (k : ℕ). take k heights ≡ map lifted g.heights) (sym z) R.heights_are
 
-    pub linked_here : LinksOf N M w (take n heights) (stretch (4 * n) (5 * n - 4 * n) s) links
+    pub linked_here : Linked (rule_by N) w (take n heights) (stretch (4 * n) (5 * n - 4 * n) s) links
     linked_here =
-        subst (λ (l : List ℕ). LinksOf N M w l marks links) (sym heights_here)
-        (subst (λ (l : List ℕ). LinksOf N M w (map lifted g.heights) l links) (sym (marks_are s w h G n z)) R.linked)
-
--- heights that stay, or are lifted again, are the ground's
-pub again_are : (M : Manner) (s : List ℕ) (w h : ℕ) (G : Good (ground_in s w h)) (n : ℕ) → n ≡ h * w → (heights ground after : List ℕ)
-    → n ≤ length heights → take n heights ≡ map lifted (ground_in s w h).heights → Stays M (take n heights) ground
-    → LiftedAgain M s n (ground ++ drop n heights) after → take n after ≡ map lifted (ground_in s w h).heights
-again_are Carve s w h G n z heights ground after room t e f =
-    ap (take n) f ∙ take_at ground (drop n heights) n (ap length e ∙ length-take-le n heights room) ∙ e ∙ t
-again_are Sheet s w h G n z heights ground after room t e f = heights_are s w h G (ground ++ drop n heights) n z f
+        subst (λ (l : List ℕ). Linked (rule_by N) w l marks links) (sym heights_here)
+        (subst (λ (l : List ℕ). Linked (rule_by N) w (map lifted g.heights) l links) (sym (marks_are s w h G n z)) R.linked)

@@ -2,11 +2,8 @@
 -- Assumes nothing.
 use Rattle.std.specs.Prelude.{true, List, ◌≡◌, ℕ, ◌*◌, ◌<◌, ℤ}
 use Rattle.heights.specs.Bits.{signed_of}
-use Rattle.lists.specs.Lists.{filled}
 use Rattle.sections.specs.LittleEndian.{number_at}
 use Rattle.rules.specs.Ground.{height_in_range, lifted}
-use Rattle.rules.specs.declared.Manner.{Manner}
-use Rattle.rules.specs.declared.Manner.TheVariants.{Carve, Sheet}
 
 -- the height of cell k: the heights start at byte 0, four bytes each
 abbrev pub signed_at : List ℕ → ℕ → ℤ
@@ -18,8 +15,3 @@ lifted_at s k = lifted (signed_at s k)
 -- the heights of the first n cells are in range
 abbrev pub InRangeAt : List ℕ → ℕ → Type 0
 InRangeAt s n = (k : ℕ) → k < n → height_in_range (signed_at s k) ≡ true
-
--- after a sheet was linked the heights are lifted again; carving left them
-abbrev pub LiftedAgain : Manner → (bytes : List ℕ) (n : ℕ) (before after : List ℕ) → Type 0
-LiftedAgain Carve bytes n before after = after ≡ before
-LiftedAgain Sheet bytes n before after = after ≡ filled (lifted_at bytes) n before

@@ -3,18 +3,17 @@
 // Heights are lifted as they are read, and marks and water are looked at where they stand in the record.
 ghost use Rattle.std.specs.Prelude.{◌≡◌, ◌*◌, ◌≤◌, length};
 ghost use Rattle.lists.specs.Lists.{filled};
-ghost use Rattle.record_stages.specs.Lifted.{InRangeAt, LiftedAgain, lifted_at};
+ghost use Rattle.record_stages.specs.Lifted.{InRangeAt, lifted_at};
 ghost use Rattle.record_stages.specs.LinkedRecord.{LinkedRecord, RecordLinked};
 ghost use Rattle.record_stages.specs.Readable.{Readable};
 ghost use Rattle.record_stages.specs.WalkedRecord.{RecordWalked};
-ghost use Rattle.rules.specs.declared.Manner.{Manner};
 ghost use Rattle.walk.specs.Walk.{lent, LentHolds};
 
 use drainage::drain_section;
 use grid::Neighbours;
+use manners::walk_by;
 use rules::Manner;
-use stages::link_tile;
-use walk::walk_links;
+use stages::link_cells;
 
 // The first n heights of a record, lifted, at the start of a lent list.
 pub fn lift_record(bytes: &[u8], n: usize, out: &mut [u32])
@@ -26,22 +25,10 @@ pub fn lift_record(bytes: &[u8], n: usize, out: &mut [u32])
     }
 }
 
-// The heights again, where a sheet was linked from levels in their place.
-fn lift_again(manner: Manner, bytes: &[u8], n: usize, lifted: &mut [u32])
-    requires { (4 * n ≤ length bytes.now) × (n ≤ length lifted.old) × InRangeAt bytes.now n }
-    ensures { LiftedAgain manner bytes.now n lifted.old lifted.new }
-{
-    match manner {
-        Manner::Carve => {}
-        Manner::Sheet => lift_record(bytes, n, lifted),
-    }
-}
-
-// The heights of the ground in a record of width by height cells, lifted, its basins, and the links of its network in the manner asked for.
-// Work space: that of the stages.
+// The heights of the ground in a record of width by height cells, lifted, its basins, and the links of its network. Work space: that
+// of the stages.
 pub fn link_record(
     neighbours: Neighbours,
-    manner: Manner,
     bytes: &[u8],
     width: u16,
     height: u16,
@@ -51,35 +38,26 @@ pub fn link_record(
 )
     requires readable { Readable bytes.now width height }
     requires width_in_bounds { (height * width ≤ length lifted.old) × (height * width ≤ length basins.old) × (length links.old ≡ 4226) }
-    ensures { RecordLinked neighbours manner bytes.now width height basins.old lifted.new basins.new
-        links.new }
+    ensures { RecordLinked neighbours bytes.now width height basins.old lifted.new basins.new links.new }
 {
     let n = ground::cells(width, height);
     let w = width as usize;
     let from = 4 * n;
     let to = 5 * n;
     lift_record(bytes, n, lifted);
-    link_tile(
-        neighbours,
-        manner,
-        w,
-        &mut lifted[..n],
-        &bytes[from..to],
-        basins,
-        links,
-    );
-    lift_again(manner, bytes, n, lifted);
+    link_cells(neighbours, w, &lifted[..n], &bytes[from..to], basins, links);
 }
 
-// The network of a record whose cells are linked, levels lifted, but for its basins, in the manner that they are linked in. The list that
-// drainage is to stand in is the walk's work space.
+// The network of a record whose cells are linked, in the manner asked for, levels lifted, but for its basins. The list that drainage is to
+// stand in is the walk's work space, and so are the links, once they are walked.
 pub fn walk_record(
     neighbours: Neighbours,
+    manner: Manner,
     bytes: &[u8],
     width: u16,
     height: u16,
     lifted: &[u32],
-    links: &[u8],
+    links: &mut [u8],
     receivers: &mut [u16],
     order: &mut [u16],
     levels: &mut [u32],
@@ -87,19 +65,19 @@ pub fn walk_record(
     wet: &mut [u8],
 )
     requires readable { Readable bytes.now width height }
-    requires linked_record { (M : Manner) × LinkedRecord neighbours M bytes.now width height lifted.now links.now }
+    requires linked_record { LinkedRecord neighbours bytes.now width height lifted.now links.old × (length links.old ≡ 4226) }
     requires lent_holds { LentHolds (height * width) (lent drainage.old order.old receivers.old levels.old wet.old) }
     ensures { let before = lent drainage.old order.old receivers.old levels.old wet.old in
         let after = lent drainage.new order.new receivers.new levels.new wet.new in
-        ((M : Manner) → LinkedRecord neighbours M bytes.now width height lifted.now links.now
-        → RecordWalked neighbours M bytes.now width height before after) }
+        RecordWalked neighbours manner bytes.now width height before after }
 {
     let n = ground::cells(width, height);
     let w = width as usize;
     let from = 4 * n;
     let to = 5 * n;
-    walk_links(
+    walk_by(
         neighbours,
+        manner,
         w,
         &lifted[..n],
         &bytes[from..to],

@@ -1,9 +1,9 @@
--- One more than a basin's number, with 0 for all outlet basins, tells the nodes of rule 4 apart.
+-- A basin's number, with one number for all outlet basins, tells the nodes of rule 4 apart.
 -- Assumes nothing.
 use mathlib.Core.Bool.{Bool, cond, false, true}
 use mathlib.Core.List.{List}
 use mathlib.Core.Path.{ap, sym, ◌∙◌, ◌≡◌}
-use Prim.Native.Nat.{ℕ, ◌+◌, ◌<◌, ◌≤◌}
+use Prim.Native.Nat.{ℕ, ◌<◌, ◌≤◌}
 use native.Mathlib.Omega.{arith}
 use Rattle.lists.proofs.Tab.{tab-at}
 use Rattle.lists.proofs.Tests.{is, isnt, Known, known}
@@ -22,11 +22,11 @@ module _ (L : Land) (W : Lawful L) where
   unfolding node
   inner_node c o = rw o
 
-  outer_label : (c : ℕ) → L.outlet (singular_of L c) ≡ true → label_of L c ≡ 0
+  outer_label : (c : ℕ) → L.outlet (singular_of L c) ≡ true → label_of L c ≡ L.cells
   unfolding label_of
   outer_label c o = rw o
 
-  inner_label : (c : ℕ) → L.outlet (singular_of L c) ≡ false → label_of L c ≡ basin L c + 1
+  inner_label : (c : ℕ) → L.outlet (singular_of L c) ≡ false → label_of L c ≡ basin L c
   unfolding label_of
   inner_label c o = rw o
 
@@ -36,9 +36,9 @@ module _ (L : Land) (W : Lawful L) where
       where
         go : Known (L.outlet (singular_of L c)) → Known (L.outlet (singular_of L d)) → node L c ≡ node L d
         go (is o) (is p) = node-root L c o ∙ sym (node-root L d p)
-        go (is o) (isnt p) = let q = sym (outer_label c o) ∙ e ∙ inner_label d p in absurd (omega (arith, q))
-        go (isnt o) (is p) = let q = sym (inner_label c o) ∙ e ∙ outer_label d p in absurd (omega (arith, q))
-        go (isnt o) (isnt p) = node_same L c d (basin_same L W c d s t (let q = sym (inner_label c o) ∙ e ∙ inner_label d p in omega (arith, q)))
+        go (is o) (isnt p) = let q = sym (outer_label c o) ∙ e ∙ inner_label d p in absurd (omega (arith, q, basin-below L d k t))
+        go (isnt o) (is p) = let q = sym (inner_label c o) ∙ e ∙ outer_label d p in absurd (omega (arith, q, basin-below L c h s))
+        go (isnt o) (isnt p) = node_same L c d (basin_same L W c d s t (sym (inner_label c o) ∙ e ∙ inner_label d p))
 
     pub node_label : node L c ≡ node L d → label_of L c ≡ label_of L d
     node_label e = go (known (L.outlet (singular_of L c))) (known (L.outlet (singular_of L d)))
@@ -54,32 +54,14 @@ module _ (L : Land) (W : Lawful L) where
             let b : singular_of L c < L.cells = singular_of-below L c h in
             absurd (omega arith)
         go (isnt o) (isnt p) =
-            inner_label c o ∙ ap (λ (b : ℕ). b + 1) (same_basin L W c d s t (sym (inner_node c o) ∙ e ∙ inner_node d p)) ∙ sym (inner_label d p)
-
-  -- 0 is the label of the outlets' node
-  pub label_outlets : (c : ℕ) → c < L.cells → node L c ≡ L.cells → label_of L c ≡ 0
-  label_outlets c h e = go (known (L.outlet (singular_of L c)))
-    where
-      go : Known (L.outlet (singular_of L c)) → label_of L c ≡ 0
-      go (is o) = outer_label c o
-      go (isnt o) =
-          let q = sym (inner_node c o) ∙ e in
-          let b : singular_of L c < L.cells = singular_of-below L c h in
-          absurd (omega arith)
-
-  pub outlets_label : (c : ℕ) → label_of L c ≡ 0 → node L c ≡ L.cells
-  outlets_label c e = go (known (L.outlet (singular_of L c)))
-    where
-      go : Known (L.outlet (singular_of L c)) → node L c ≡ L.cells
-      go (is o) = node-root L c o
-      go (isnt o) = let q = sym (inner_label c o) ∙ e in absurd (omega (arith, q))
+            inner_label c o ∙ same_basin L W c d s t (sym (inner_node c o) ∙ e ∙ inner_node d p) ∙ sym (inner_label d p)
 
   -- a label is at most the count of cells
   pub label_small : (c : ℕ) → c < L.cells → L.solid c ≡ true → label_of L c ≤ L.cells
   unfolding label_of
   label_small c h s = go (L.outlet (singular_of L c))
     where
-      go : (t : Bool) → cond t 0 (basin L c + 1) ≤ L.cells
+      go : (t : Bool) → cond t L.cells (basin L c) ≤ L.cells
       go true = omega arith
       go false = let b = basin-below L c h s in omega arith
 

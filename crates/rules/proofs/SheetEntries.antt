@@ -3,15 +3,14 @@
 -- Assumes nothing.
 use mathlib.Core.Bool.{false, true}
 use mathlib.Core.List.Memᴰ.{not-nil as in-none}
-use mathlib.Core.List.{[], List}
+use mathlib.Core.List.{[], List, ◌∷◌}
 use mathlib.Core.Logic.{inl, inr, ◌⊎◌}
 use mathlib.Core.Path.{subst, ◌∙◌, ◌≡◌}
-use Prim.Native.Nat.{ℕ, ◌-◌, ◌<◌, ◌≤◌}
+use Prim.Native.Nat.{suc, zero, ℕ, ◌-◌, ◌<◌, ◌≤◌}
 use native.Mathlib.Omega.{arith}
 use lib.Dec.{ltb}
 use borrow.Author.Tests.{lt-ltb, ltb-true}
 use Rattle.lists.proofs.Any.{any_holds, any_member}
-use Rattle.lists.proofs.Greatest.{greatest-at}
 use Rattle.lists.proofs.Keep.{keep_holds, keep_member}
 use Rattle.lists.proofs.Range.{upto-below, upto_holds}
 use Rattle.lists.proofs.Tab.{tab-at}
@@ -24,6 +23,11 @@ use Rattle.rules.specs.Land.{Land}
 use Rattle.rules.specs.Sheet.{count, ends_count, falls, level_land, level_step, sheet_receiver, sheet_receivers}
 use Rattle.rules.specs.SheetLaw.{ToLowest}
 use Rattle.rules.specs.Steepest.{Steepest}
+
+at-greatest : (l : List ℕ) (k : ℕ) → at l k ≤ greatest l
+at-greatest [] k = omega arith
+at-greatest (x ∷ xs) zero = omega arith
+at-greatest (x ∷ xs) (suc k) = let h = at-greatest xs k in omega arith
 
 -- a neighbour is a member of the list of neighbours, both ways
 pub neighbours_holds : (L : Land) (c d : ℕ) → d < L.cells → L.beside c d ≡ true → d ∈ neighbours L c
@@ -72,8 +76,8 @@ module _ (L : Land) (levels : List ℕ) where
     where
       deeper : (a b : ℕ) → ltb (at levels a) (at levels b) ≡ ltb (depth b) (depth a)
       deeper a b =
-          let x = greatest-at levels a in
-          let y = greatest-at levels b in
+          let x = at-greatest levels a in
+          let y = at-greatest levels b in
           same_ltb (at levels a) (at levels b) (depth b) (depth a) (λ h. omega arith) (λ h. omega arith)
 
       go : ((lower_neighbours (level_land L levels) c ≡ []) × (first_receiver (level_land L levels) c ≡ c))
@@ -97,8 +101,8 @@ module _ (L : Land) (levels : List ℕ) where
           at_most : (e : ℕ) → e ∈ neighbours L c → (at levels e < at levels c) ⊎ (at levels c ≤ at levels e) → at levels best ≤ at levels e
           at_most e i (inl h) =
               let x = S.most e (lower_holds c e i h) in
-              let y = greatest-at levels e in
-              let z = greatest-at levels best in
+              let y = at-greatest levels e in
+              let z = at-greatest levels best in
               omega arith
           at_most e i (inr h) = omega (arith, below)
 

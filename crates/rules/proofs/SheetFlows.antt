@@ -13,14 +13,13 @@ use Rattle.lists.proofs.Tests.{is, isnt, Known, known, lt_or_ge, never}
 use Rattle.lists.specs.Lists.{at, tab, ◌∈◌}
 use Rattle.rules.proofs.SheetEntries.{ends-not, entry_falling, entry_hole, entry_level, entry_outlet, falls-to, lower-one}
 use Rattle.rules.proofs.SheetEntries.{to-lowest}
-use Rattle.rules.proofs.Sheets.{Counts, some_count, to_one_less}
+use Rattle.rules.proofs.Sheets.{Counts, fewest-one, some_count, to_one_less}
 use Rattle.rules.specs.FirstWays.{neighbours}
 use Rattle.rules.specs.Land.{Land}
 use Rattle.rules.specs.Network.{carved_levels, receivers_by}
 use Rattle.rules.specs.Sheet.{count, falls, sheet_receiver, sheet_receivers}
 use Rattle.rules.specs.SheetLaw.{FewestSteps, SheetFlow, ToLowest, ToOneLess}
 use Rattle.rules.specs.Way.{Lawful}
-use Rattle.spread.proofs.Fewest.{fewest-one}
 use Rattle.rules.specs.declared.Manner.TheVariants.{Sheet}
 
 module _ (L : Land) (levels : List ℕ) where

@@ -26,9 +26,13 @@ use Rattle.rules.specs.Network.{carved_levels, level, receivers_by}
 use Rattle.rules.specs.Sheet.{count, ends_count, falls, level_step, sheet_receivers}
 use Rattle.rules.specs.SheetLaw.{FewestSteps, ToOneLess}
 use Rattle.rules.specs.Way.{done, Lawful, more, Runs}
-use Rattle.spread.proofs.Fewest.{fewest_any, fewest-one, steps_on}
-use Rattle.spread.specs.Steps.{alike, arrived, onward, Steps}
+use Rattle.spread.proofs.Fewest.{fewest_any, steps_on}
+use Rattle.spread.specs.Steps.{alike, arrived, Fewest, onward, Steps}
 use Rattle.rules.specs.declared.Manner.TheVariants.{Sheet}
+
+-- the fewest number of steps is one number
+pub fewest-one : {n : ℕ} {E : ℕ → ℕ → Bool} {marked : ℕ → Bool} {c j k : ℕ} → Fewest n E marked c j → Fewest n E marked c k → j ≡ k
+fewest-one {j = j} {k = k} F G = let a = F.least k G.way in let b = G.least j F.way in omega arith
 
 module _ (L : Land) (levels : List ℕ) where
   -- a way of k steps to where a count ends

@@ -1,14 +1,14 @@
 -- Labels that tell the nodes of rule 4 apart: what code goes by in the place of singular cells.
 -- Assumes nothing.
-use Rattle.std.specs.Prelude.{cond, List, ◌≡◌, ℕ, ◌+◌, ◌<◌}
+use Rattle.std.specs.Prelude.{cond, List, ◌≡◌, ℕ, ◌<◌}
 use Rattle.lists.specs.Lists.{at}
 use Rattle.rules.specs.FirstWays.{basin, singular_of}
 use Rattle.rules.specs.Land.{Land}
 use Rattle.rules.specs.Passes.{node}
 
--- the label of a cell: one more than the number of its basin, and 0 for all outlet basins
+-- the label of a cell: the number of its basin, and one number for all outlet basins, which no basin has
 unfoldable pub label_of : Land → ℕ → ℕ
-label_of L c = cond (L.outlet (singular_of L c)) 0 (basin L c + 1)
+label_of L c = cond (L.outlet (singular_of L c)) L.cells (basin L c)
 
 -- two cells have one label exactly if their basins are one node
 pub record Labelled (L : Land) (labels : List ℕ) : Type 0 where

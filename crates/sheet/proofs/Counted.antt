@@ -13,7 +13,7 @@ use Rattle.rules.specs.Ground.{is_outlet}
 use Rattle.rules.specs.Land.{Land}
 use Rattle.rules.specs.Sheet.{count, ends_count}
 use Rattle.sheet.proofs.Ends.{ends-weight}
-use Rattle.lists.proofs.StoredTables.{stored_at, stored-length}
+use Rattle.sheet.proofs.Margins.{stored_at, stored-length}
 use Rattle.sheet.specs.LevelSteps.{first_count}
 use Rattle.sheet.specs.SheetLinks.{level_tile, Lowered}
 use Rattle.spread.proofs.Fewest.{fewest_starts}
@@ -57,13 +57,13 @@ module _ {N : Neighbours} {w : ℕ} {levels marks weights likes : List ℕ} (K :
         let l = marks-length in
         let m = K.tile.marked in
         ap (λ (x : List ℕ). at x (c + 65)) first
-        ∙ stored_at 65 (tab (length marks) (first_count weights marks)) old c (omega arith) (omega arith)
+        ∙ stored_at (tab (length marks) (first_count weights marks)) old c (omega arith) (omega arith)
         ∙ tab-at (first_count weights marks) (length marks) c 0 (omega arith)
 
     counts-length : length counts ≡ length old
     counts-length =
         let l = marks-length in
-        ap length first ∙ stored-length 65 (tab (length marks) (first_count weights marks)) old (omega arith)
+        ap length first ∙ stored-length (tab (length marks) (first_count weights marks)) old (omega arith)
 
     pub spreadable : (queue : List ℕ) → n < length queue → Spreadable N w level likes counts queue
     spreadable queue q =
@@ -92,4 +92,4 @@ module _ {N : Neighbours} {w : ℕ} {levels marks weights likes : List ℕ} (K :
         let l = tab-length f n in
         let is : after ≡ stored 65 (tab n f) counts = e ∙ rw K.full in
         ap (λ (x : List ℕ). at x (c + 65)) is
-        ∙ stored_at 65 (tab n f) counts c (omega (arith, counts-length)) (omega arith) ∙ tab-at f n c 0 h ∙ fewest_count c h
+        ∙ stored_at (tab n f) counts c (omega (arith, counts-length)) (omega arith) ∙ tab-at f n c 0 h ∙ fewest_count c h

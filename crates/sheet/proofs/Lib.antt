@@ -1,3 +1,4 @@
+pub mod Margins
 pub mod Tries
 pub mod FirstBits
 pub mod Ends

@@ -1,6 +1,6 @@
 -- Levels with a margin, and the masks of neighbours: what lowest weights and like masks ask for, and what they leave, said of the levels themselves.
 -- Assumes nothing.
-use Rattle.std.proofs.Common.{◌≡◌, ℕ, ◌+◌, ◌<◌, ◌≤◌, Bool, ◌⊎◌, List, length, take, drop, sym, refl, ap, ◌∙◌, subst, inl, inr, arith, length-take-le}
+use Rattle.std.proofs.Common.{◌≡◌, ℕ, ◌+◌, ◌<◌, ◌≤◌, Bool, List, length, take, drop, sym, refl, ap, ◌∙◌, subst, arith, length-take-le}
 use Rattle.first_receivers.specs.Weights.{first_is}
 use Rattle.grid.proofs.Masks.{mask_same, masks_filled}
 use Rattle.grid.proofs.Rules.{around_rule}
@@ -13,7 +13,7 @@ use Rattle.lists.proofs.Tab.{tab-at, tab-length}
 use Rattle.lists.specs.Lists.{at, filled, stored, stretch, tab, ◌∈◌}
 use Rattle.lowest.specs.Lowest.{Levelled, lowest_land}
 use Rattle.rules.specs.Tile.{Tile}
-use Rattle.lists.proofs.StoredTables.{stored_at, stored-length, stored_past}
+use Rattle.sheet.proofs.Margins.{stored_at, stored-length}
 use Rattle.sheet.specs.SheetLinks.{level_tile, Lowered, sheet_lead}
 use Rattle.spread.specs.Steps.{alike}
 use Rattle.grid.specs.declared.Neighbours.{Neighbours}
@@ -24,7 +24,6 @@ pub record Laid (N : Neighbours) (w : ℕ) (levels marks masks labels : List ℕ
   pub masks_are : masks ≡ tab (length levels) (mask_of around w (length levels) (beside (places_by N) w))
   pub old : List ℕ
   pub room : length levels + 130 ≤ length old
-  pub high : (i : ℕ) → i < length old → at old i ≡ 16777215
   pub labels_are : labels ≡ stored 65 levels old
 
 module _ {N : Neighbours} {w : ℕ} {levels marks masks labels : List ℕ} (K : Laid N w levels marks masks labels) where
@@ -41,25 +40,16 @@ module _ {N : Neighbours} {w : ℕ} {levels marks masks labels : List ℕ} (K : 
   masks_say c h = ap (λ (l : List ℕ). at l c) K.masks_are ∙ tab-at (mask_of around w n near) n c 0 h
 
   labels_length : length labels ≡ length K.old
-  labels_length = let r = K.room in ap length K.labels_are ∙ stored-length 65 levels K.old (omega arith)
+  labels_length = let r = K.room in ap length K.labels_are ∙ stored-length levels K.old (omega arith)
 
   label_at : (c : ℕ) → c < n → at labels (c + 65) ≡ at levels c
-  label_at c h = let r = K.room in ap (λ (l : List ℕ). at l (c + 65)) K.labels_are ∙ stored_at 65 levels K.old c (omega arith) h
+  label_at c h = let r = K.room in ap (λ (l : List ℕ). at l (c + 65)) K.labels_are ∙ stored_at levels K.old c (omega arith) h
 
   labels-levels : stretch 65 n labels ≡ levels
   labels-levels =
       let r = K.room in
       ap (stretch 65 n) K.labels_are
       ∙ stretch-at (take 65 K.old) levels (drop (65 + n) K.old) 65 n (length-take-le 65 K.old (omega arith)) refl
-
-  edge_at : (i : ℕ) → (i < 65) ⊎ (n + 65 ≤ i) → i < length labels → at labels i ≡ 16777215
-  edge_at i o h =
-      let r = K.room in let l = labels_length in
-      ap (λ (l : List ℕ). at l i) K.labels_are ∙ stored_past 65 levels K.old i (omega arith) (outer o) ∙ K.high i (omega arith)
-    where
-      outer : (i < 65) ⊎ (n + 65 ≤ i) → (i < 65) ⊎ (65 + n ≤ i)
-      outer (inl o) = inl o
-      outer (inr o) = inr (omega arith)
 
   -- what lowest weights ask for
   pub levelled : Levelled N w masks labels marks
@@ -70,7 +60,6 @@ module _ {N : Neighbours} {w : ℕ} {levels marks masks labels : List ℕ} (K : 
         neighbours = subst (λ (m : ℕ). Masks around w m near masks) (sym e) masks_say;
         margin = omega (arith, K.room, labels_length);
         lifted = λ c h. let low = K.tile.lifted c in let same = label_at c (omega arith) in omega arith;
-        edge = λ i o h. edge_at i (subst (λ (m : ℕ). (i < 65) ⊎ (m + 65 ≤ i)) e o) h;
         marked = omega (arith, K.tile.marked);
       }
 

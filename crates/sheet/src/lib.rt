@@ -23,9 +23,6 @@ use std::num::wrapping_sub_u16;
 // So many entries stand before and after those of the cells, so that every cell has eight places around it.
 const MARGIN: usize = 65;
 
-// What stands before and after the levels: more than any level.
-const PAST: u32 = 16_777_215;
-
 // The count of a cell that no way was found from.
 const NONE: u16 = 65_535;
 
@@ -84,7 +81,7 @@ fn find_lowest(
         ≡ filled (mask_of around w n (alike (beside (places_by neighbours) w) (at levels.now))) n likes.old) }
 {
     let mut masks = [0u8; 4096];
-    let mut labels = [PAST; 4226];
+    let mut labels = [0u32; 4226];
     let n = levels.len();
     neighbour_masks(neighbours, w, n, &mut masks);
     copy_levels(levels, &mut labels);
@@ -156,13 +153,13 @@ fn step_weights(neighbours: Neighbours, w: usize, likes: &[u8], counts: &[u16], 
 }
 
 // The weights of sheet flow, from those of the lowest neighbours: counts spread from where they end, and where a count isn't 0 a level step takes the
-// weight's place. Work space: 25 KB, and that of spreading.
+// weight's place. Work space: 17 KB.
 fn step_levels(neighbours: Neighbours, w: usize, likes: &[u8], marks: &[u8], weights: &mut [u8])
     requires { (levels : List ℕ) × Lowered neighbours w levels marks.now weights.old likes.now }
     ensures { LevelsStepped neighbours w marks.now likes.now weights.old weights.new }
 {
     let mut counts = [0u16; 4226];
-    let mut queue = [0u32; 4097];
+    let mut queue = [0u16; 4097];
     first_counts(weights, marks, &mut counts);
     spread(neighbours, w, likes, &mut counts, &mut queue);
     step_weights(neighbours, w, likes, &counts, weights);

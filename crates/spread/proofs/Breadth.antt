@@ -14,8 +14,7 @@ use borrow.Author.Tests.{eq-eqb, eqb-true, ne_eqb}
 use Rattle.lists.proofs.Keep.{keep-length_lt}
 use Rattle.lists.proofs.Range.{upto_holds}
 use Rattle.lists.proofs.Tests.{eq_or_ne, lt_or_ge}
-use Rattle.lists.specs.Lists.{at}
-use Rattle.spread.specs.Front.{blanks_in}
+use Rattle.lists.specs.Lists.{at, keep, upto}
 use Rattle.spread.specs.Steps.{none, onward, Steps}
 use Rattle.spread.specs.Wave.{entered, Wave}
 
@@ -42,14 +41,14 @@ pub record Queued (s : Wave) (c : ℕ) : Type 0 where
 
 -- how many of n cells have no count
 abbrev pub blanks : ℕ → Wave → ℕ
-blanks n s = blanks_in s.counts n
+blanks n s = length (keep (λ c. eqb (count_of s c) none) (upto n))
 
 module _ (n : ℕ) (E : ℕ → ℕ → Bool) (marked : ℕ → Bool) (old : List ℕ) where
-  -- where a cell may be: it has no count, or it stands in the queue, or it counts 0 and so does all that may step to it
+  -- where a cell may be: it has no count, or it stands in the queue, or it is marked and nothing may step to it
   pub data Whereabouts (s : Wave) (c : ℕ) : Type 0 where
     uncounted : count_of s c ≡ none → Whereabouts s c
     queued : Queued s c → Whereabouts s c
-    settled : count_of s c ≡ 0 → ((d : ℕ) → d < n → E d c ≡ true → count_of s d ≡ 0) → Whereabouts s c
+    alone : count_of s c ≡ 0 → ((d : ℕ) → d < n → E d c ≡ true → ⊥) → Whereabouts s c
 
   -- the cells before place h of the queue were taken out
   pub record Spreading (h : ℕ) (s : Wave) : Type 0 where
@@ -170,7 +169,7 @@ module _ (n : ℕ) (E : ℕ → ℕ → Bool) (marked : ℕ → Bool) (old : Lis
         go (inr q) (uncounted r) = uncounted (count_other x q ∙ r)
         go (inr q) (queued r) =
             let b = r.before in queued (record { place = r.place; before = omega arith; is = queue_old r.place b ∙ r.is })
-        go (inr q) (settled z f) = settled (count_other x q ∙ z) (λ y b r. let a = f y b r in let k = enter_less y in omega arith)
+        go (inr q) (alone z f) = alone (count_other x q ∙ z) f
 
     on' : (i : ℕ) → i < t + 1 → (65 ≤ at s'.queue i) × (at s'.queue i < n + 65)
     on' i l = go (last_or i t l)

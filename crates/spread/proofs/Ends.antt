@@ -1,17 +1,43 @@
 -- The end: nothing waits in the queue any more, and each count is the fewest number of steps.
 -- Assumes nothing.
 use mathlib.Core.Bool.{Bool}
-use mathlib.Core.List.{List}
+use mathlib.Core.List.{List, ◌++◌}
 use mathlib.Core.Logic.{inl, inr, ◌⊎◌}
 use mathlib.Core.Path.{ap, sym, ◌∙◌, ◌≡◌}
 use Prim.Native.Nat.{suc, ℕ, ◌+◌, ◌<◌, ◌≤◌}
 use native.Mathlib.Omega.{arith}
-use Rattle.lists.proofs.StoredTables.{stored-by}
-use Rattle.lists.specs.Lists.{at, stored, tab}
-use Rattle.spread.proofs.Breadth.{count_at, count_of, queued, settled, Spreading, uncounted, Whereabouts}
+use lib.ListN.{drop, length, length-drop, take, take-append-drop}
+use lib.Seq.{drop-drop, ext_get_or, get_or-drop, get_or-take, length-take-le}
+use Rattle.lists.proofs.Filled.{filled-by}
+use Rattle.lists.specs.Lists.{at, filled, stored, tab}
+use Rattle.spread.proofs.Breadth.{alone, count_at, count_of, queued, Spreading, uncounted, Whereabouts}
 use Rattle.spread.proofs.Fewest.{fewest_is, fewest_none, steps_on}
 use Rattle.spread.specs.Steps.{arrived, fewest, none, onward, Steps}
 use Rattle.spread.specs.Wave.{Wave}
+
+-- n numbers between margins: a list that has f's numbers there, and is as it was elsewhere
+stored-by : (f : ℕ → ℕ) (from n : ℕ) (old l : List ℕ) → from + n ≤ length old → length l ≡ length old
+    → ((i : ℕ) → i < n → at l (from + i) ≡ f i) → ((i : ℕ) → (i < from) ⊎ (from + n ≤ i) → at l i ≡ at old i)
+    → l ≡ stored from (tab n f) old
+unfolding filled
+stored-by f from n old l h s v u =
+    sym (take-append-drop from l)
+    ∙ ap (λ (x : List ℕ). x ++ drop from l) front
+    ∙ ap (λ (x : List ℕ). take from old ++ x) rest
+    ∙ ap (λ (x : List ℕ). take from old ++ (tab n f ++ x)) (drop-drop (length (tab n f)) from old)
+  where
+    front : take from l ≡ take from old
+    front =
+        let a = length-take-le from l (omega arith) in let b = length-take-le from old (omega arith) in
+        ext_get_or 0 (take from l) (take from old) (a ∙ sym b)
+        (λ i k. let j : i < from = omega arith in get_or-take from l i 0 j ∙ u i (inl j) ∙ sym (get_or-take from old i 0 j))
+
+    rest : drop from l ≡ filled f n (drop from old)
+    rest =
+        let a = length-drop from old in let b = length-drop from l in
+        filled-by f n (drop from old) (drop from l) (omega arith) (omega arith)
+        (λ i k. get_or-drop from l i 0 ∙ v i k)
+        (λ i k. get_or-drop from l i 0 ∙ u (from + i) (inr (omega arith)) ∙ sym (get_or-drop from old i 0))
 
 module _ (n : ℕ) (E : ℕ → ℕ → Bool) (marked : ℕ → Bool) (old : List ℕ) (h : ℕ) (s : Wave) (S : Spreading n E marked old h s)
     (empty : s.tail ≤ h) where
@@ -29,7 +55,7 @@ module _ (n : ℕ) (E : ℕ → ℕ → Bool) (marked : ℕ → Bool) (old : Lis
           let y = S.early q.place b in
           let x = S.roomy in let f = S.few in
           (omega arith, omega arith)
-      go r (settled z zeros) = let a = zeros c l e in (omega arith, omega arith)
+      go r (alone z none-steps) = absurd (none-steps c l e)
 
   fewest-here : (c : ℕ) → c < n → count_of s c ≡ fewest n E marked c
   fewest-here c l = go (S.stands c l)
@@ -47,7 +73,7 @@ module _ (n : ℕ) (E : ℕ → ℕ → Bool) (marked : ℕ → Bool) (old : Lis
           let y = S.early q.place b in
           let x = S.roomy in
           counted (omega arith)
-      go (settled z zeros) = counted (omega arith)
+      go (alone z none-steps) = counted (omega arith)
 
   pub spread_all : s.counts ≡ stored 65 (tab n (fewest n E marked)) old
   spread_all =

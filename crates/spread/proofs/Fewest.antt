@@ -29,10 +29,6 @@ was-one : (b : Bool) → cond b 1 0 ≡ suc zero → b ≡ true
 was-one true e = refl
 was-one false e = absurd (omega arith)
 
--- the fewest number of steps is one number
-pub fewest-one : {n : ℕ} {E : ℕ → ℕ → Bool} {marked : ℕ → Bool} {c j k : ℕ} → Fewest n E marked c j → Fewest n E marked c k → j ≡ k
-fewest-one {j = j} {k = k} F G = let a = F.least k G.way in let b = G.least j F.way in omega arith
-
 module _ (n : ℕ) (E : ℕ → ℕ → Bool) (marked : ℕ → Bool) where
   pub steps_on : {c k : ℕ} → Steps n E marked c k → c < n
   steps_on (arrived h s) = h

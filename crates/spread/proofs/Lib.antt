@@ -1,13 +1,10 @@
 pub mod Fewest
 pub mod Offers
 pub mod Pairs
-pub mod Opens
 pub mod Breadth
 pub mod Turns
 pub mod Places
 pub mod Begins
 pub mod Ends
 pub mod Floods
-pub mod Shows
-pub mod Stages
 pub mod OneOutcome

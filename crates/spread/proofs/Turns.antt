@@ -16,7 +16,7 @@ use lib.Dec.{eqb}
 use borrow.Author.Tests.{eq-eqb, eqb-true, ne_eqb}
 use Rattle.lists.proofs.Tests.{eq_or_ne, is, isnt, Known, known}
 use Rattle.lists.specs.Lists.{at, ◌∈◌}
-use Rattle.spread.proofs.Breadth.{count_at, count_of, enter_count, entering, enter_less, last_or, queued, settled, Spreading, uncounted}
+use Rattle.spread.proofs.Breadth.{alone, count_at, count_of, enter_count, entering, enter_less, last_or, queued, Spreading, uncounted}
 use Rattle.spread.proofs.Breadth.{Visiting, Whereabouts}
 use Rattle.spread.specs.Steps.{none}
 use Rattle.spread.specs.Wave.{bit_at, entered, offered, offers, place_at, Wave}
@@ -37,7 +37,7 @@ module _ (n : ℕ) (E : ℕ → ℕ → Bool) (marked : ℕ → Bool) (old : Lis
   same : (s : Wave) → Visiting n E marked old h c m s → Offered s s
   same s I = record { visiting = I; less = λ x. omega arith }
 
-  -- a cell that may step to c and is counted stands in the queue or counts 0, so its count is at most one more
+  -- a cell that may step to c and is counted stands in the queue, so its count is at most one more
   seen : (s : Wave) → Visiting n E marked old h c m s → (d i : ℕ) → StepsTo n E c i d → (count_of s d ≡ none → ⊥) → Whereabouts n E marked old s d
       → count_of s d ≤ suc m
   seen s I d i T f (uncounted q) = absurd (f q)
@@ -46,7 +46,8 @@ module _ (n : ℕ) (E : ℕ → ℕ → Bool) (marked : ℕ → Bool) (old : Lis
       let q : count_at s h ≡ m = ap (at s.counts) I.cell ∙ I.count in
       let z = I.so_far.close h r.place (omega arith) I.waits r.before in
       omega arith
-  seen s I d i T f (settled z zeros) = omega arith
+  seen s I d i T f (alone z none-steps) =
+      absurd (none-steps c (let o = I.so_far.on h I.waits in let p = I.cell in omega arith) T.back)
 
   record One (bit i : ℕ) (s s' : Wave) : Type 0 where
     pub offered_one : Offered s s'

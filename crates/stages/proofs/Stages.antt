@@ -2,7 +2,7 @@
 -- weights and passes, which are those of the neighbours asked for.
 -- Assumes nothing.
 use mathlib.Core.Bool.{Bool}
-use mathlib.Core.List.{List, ◌++◌}
+use mathlib.Core.List.{List}
 use mathlib.Core.Path.{ap, refl, subst, sym, ◌∙◌, ◌≡◌}
 use Prim.Native.Nat.{ℕ, ◌≤◌}
 use native.Mathlib.Omega.{arith}
@@ -18,12 +18,9 @@ use Rattle.links.proofs.FromWeights.{weights_leading}
 use Rattle.links.proofs.PairNetwork.{pairs_linkage, tile_addable}
 use Rattle.links.specs.Leads.{Leading}
 use Rattle.links.specs.PairLinks.{Addable, with_pairs}
-use Rattle.lists.proofs.Filled.{filled_again, filled_at, filled-by, filled-length, filled-onto, filled_over, filled-take}
-use Rattle.lists.proofs.Overwrite.{overwrite-is, overwrite-length}
-use Rattle.lists.proofs.Tab.{tab-is}
+use Rattle.lists.proofs.Filled.{filled_at, filled-by, filled-length, filled_over, filled-take}
 use Rattle.lists.specs.Lists.{at, filled, tab}
-use Rattle.manners.proofs.Walks.{ground_long, tile_drains}
-use Rattle.manners.specs.Handed.{Ready}
+use Rattle.manners.proofs.Walks.{tile_drains}
 use Rattle.passes.specs.Choosing.{Choosable, ChosenPairs}
 use Rattle.rules.proofs.Manners.{manner_network}
 use Rattle.rules.proofs.SixLists.{six_lists_same}
@@ -31,16 +28,15 @@ use Rattle.rules.specs.Carving.{receivers}
 use Rattle.rules.specs.FirstWays.{basin, first_receiver}
 use Rattle.rules.specs.Land.{Land, Rule, rule_by}
 use Rattle.rules.specs.Links.{Linkage}
-use Rattle.rules.specs.Network.{drainage, level, lifted_network, lifted_network_in, Network, order, receivers_by}
+use Rattle.rules.specs.Network.{drainage, lifted_network, lifted_network_in, Network, order, receivers_by}
 use Rattle.rules.specs.NodeLabels.{label_of}
 use Rattle.rules.specs.SixLists.{onto, six_lists}
 use Rattle.rules.specs.Tile.{LawfulTile, Tile, tile_land}
 use Rattle.squares.specs.Listing.{pairs_for}
-use Rattle.stages.specs.Linking.{Linkable, Stays}
-use Rattle.walk.specs.Walk.{Lent, lent, WalkedWhole}
+use Rattle.stages.specs.Linking.{Linkable}
+use Rattle.walk.specs.Walk.{Lent, WalkedWhole}
 use Rattle.grid.specs.declared.Neighbours.{Neighbours}
 use Rattle.rules.specs.declared.Manner.{Manner}
-use Rattle.rules.specs.declared.Manner.TheVariants.{Carve, Sheet}
 
 -- weights, as first receivers and links ask for them
 module _ (N : Neighbours) (w : ℕ) (heights marks : List ℕ) (T : Tile w heights marks) where
@@ -89,39 +85,6 @@ module _ {R : Rule} {w : ℕ} {heights marks : List ℕ} (T : LawfulTile R w hei
         room = let s : length k ≡ length links = ap length f ∙ filled-length linked n links room in omega arith;
         masks = λ c h. ap (λ (z : List ℕ). at z c) f ∙ filled_at linked n links c h;
       }
-
--- what is handed on for carving is the heights
-pub ready_stays : (N : Neighbours) (M : Manner) (w : ℕ) (heights marks ground links : List ℕ) → Ready N M w heights marks ground links
-    → Stays M heights ground
-ready_stays N Carve w heights marks ground links K = K.0
-ready_stays N Sheet w heights marks ground links K = ground_long N Sheet w heights marks ground links K
-
--- heights at the start of a list
-pub heights-noted : (heights levels : List ℕ) {l : List ℕ} → l ≡ filled (at heights) (length heights) levels → take (length heights) l ≡ heights
-heights-noted heights levels e =
-    filled-take (at heights) (length heights) levels e ∙ tab-is (at heights) heights (length heights) 0 refl (λ k h. refl)
-
--- a list with a new start is as long as it was
-pub start_long : (g noted : List ℕ) (n : ℕ) → length g ≡ n → n ≤ length noted → length (g ++ drop n noted) ≡ length noted
-start_long g noted n k h = ap length (overwrite-is g noted n k refl) ∙ overwrite-length g noted (omega arith)
-
--- what a walk leaves, where the levels were overwritten before it
-pub levels_over : {R : Rule} {w : ℕ} {heights marks : List ℕ} → LawfulTile R w heights marks → (levels g : List ℕ) {noted l r : List ℕ}
-    {stack order receivers wets : List ℕ} {s : Lent} → noted ≡ filled (at heights) (length heights) levels
-    → l ≡ g ++ drop (length heights) noted → length g ≡ length heights
-    → WalkedWhole (tile_land R w heights marks) r (lent stack order receivers l wets) s
-    → WalkedWhole (tile_land R w heights marks) r (lent stack order receivers levels wets) s
-levels_over {R} {w} {heights} {marks} T levels g {noted} {l} {r} e f k v =
-    let n = length heights in
-    let now = level (tile_land R w heights marks) r in
-    record {
-      order_is = v.order_is;
-      receivers_are = v.receivers_are;
-      levels_are = v.levels_are ∙ ap (filled now n) (overwrite-is g noted n k f) ∙ filled-onto now n g noted k ∙ ap (filled now n) e
-          ∙ filled_again now (at heights) n levels;
-      wets_are = v.wets_are;
-      past = v.past;
-    }
 
 -- after the walk in the manner asked for
 module _ {R : Rule} {w : ℕ} {heights marks : List ℕ} (T : LawfulTile R w heights marks) (M : Manner) {s s' : Lent}

@@ -1,17 +1,12 @@
--- The walk, and heights that are noted for it: any two outcomes that the contracts in src/ allow are equal, but for the cells' places of the stack.
+-- The walk: any two outcomes that the contract in src/ allows are equal, but for the cells' places of the stack.
 -- Assumes nothing.
 use Rattle.std.proofs.Common.{length, drop, refl}
 use Rattle.lists.proofs.Determined.{one_answer}
 use Rattle.lists.proofs.Noted.{noted_one}
 use Rattle.lists.specs.Contract.{OneOutcome}
 use Rattle.walk.specs.Walk.{lent}
-use Rattle.walk.proofs.note_heights.Kinds as note-heights-kinds
-use Rattle.walk.proofs.note_heights.Reads as note-heights
 use Rattle.walk.proofs.walk_links.Kinds as walk-links-kinds
 use Rattle.walk.proofs.walk_links.Reads as walk-links
-
-pub note_heights-one : OneOutcome 2 note-heights-kinds.ps note-heights-kinds.r note-heights.Asked note-heights.Learnt (λ κs a r e. e.1.0.now)
-note_heights-one κs a p r r' e e' x y = (refl, one_answer x y)
 
 -- what is past the cells' places on the stack, order, receivers, levels and wet
 pub walk_links-one : OneOutcome 8 walk-links-kinds.ps walk-links-kinds.r walk-links.Asked walk-links.Learnt

@@ -272,7 +272,7 @@ fn push_outlets(marks: &[u8], links: &[u8], stack: &mut [u32]) -> Place
 }
 
 // Each cell's height in the place of its level: what an outlet's own entry finds at its receiver.
-pub fn note_heights(heights: &[u32], levels: &mut [u32])
+fn note_heights(heights: &[u32], levels: &mut [u32])
     requires { (length heights.now ≤ length levels.old) × (length heights.now ≤ 4096) }
     ensures { levels.new ≡ filled (at heights.now) (length heights.now) levels.old }
 {

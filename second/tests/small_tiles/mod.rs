@@ -1,13 +1,16 @@
 //! Small tiles full of ties, for the tests that read the rules slowly.
 
-#[path = "../chance/mod.rs"]
-mod chance;
-
 use second::ground::{Ground, Size};
 
 /// Small tiles with few heights and a few outlets, always the same ones.
 pub fn small_tiles() -> Vec<Ground> {
-    let mut below = chance::numbers();
+    let mut state = 1_u64;
+    let mut below = move |limit: u64| {
+        state = state
+            .wrapping_mul(6_364_136_223_846_793_005)
+            .wrapping_add(1_442_695_040_888_963_407);
+        (state >> 33) % limit
+    };
     let mut tiles = Vec::new();
     for _ in 0..2_000 {
         let (width, height) = (1 + below(5) as usize, 1 + below(5) as usize);

@@ -6,7 +6,7 @@ use native.Mathlib.Nat.{mod-eq_of_lt}
 use native.Mathlib.Omega.{arith}
 use lib.ListN.{length}
 use borrow.Author.Rules.{rules}
-use Rattle.lists.proofs.Puts.{filled_puts}
+use Rattle.alike.proofs.Puts.{filled_puts}
 use Rattle.alike.specs.NeighbourMasks.{neighbour_mask}
 use Rattle.grid.proofs.Rows.{row-after, row_fits}
 use Rattle.lists.proofs.Filled.{filled_none}

@@ -5,7 +5,7 @@ use Prim.Native.Nat.{◌+◌, ◌-◌}
 use native.Mathlib.Omega.{arith}
 use borrow.Author.Rules.{rules}
 use Rattle.alike.proofs.Columns.{row_columns}
-use Rattle.lists.proofs.Puts.{puts_same}
+use Rattle.alike.proofs.Puts.{puts_same}
 use Rattle.alike.specs.Columns.{in_column}
 use Rattle.alike.specs.NeighbourMasks.{neighbour_mask}
 use Rattle.alike.proofs.row_masks.Statement.{statement}

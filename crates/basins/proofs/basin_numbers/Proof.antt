@@ -7,7 +7,7 @@ use Prim.Native.Nat.{ℕ, ◌≤◌}
 use native.Mathlib.Omega.{arith}
 use lib.ListN.{length, replicate}
 use borrow.Author.Rules.{rules}
-use Rattle.basins.proofs.Numbered.{labelled, number_small, numbered, singular-within}
+use Rattle.basins.proofs.Numbered.{labelled, numbered, singular-within}
 use Rattle.basins.proofs.basin_numbers.Statement.{statement}
 use Rattle.basins.proofs.basin_numbers.Tie as tie
 
@@ -31,10 +31,7 @@ look-up-requires c κs =
     let d : st.args.n ≤ 4096 = F.few in
     let e : st.args.n ≤ length st.args.entries.now = F.room in (
       (omega arith, omega arith, singular-within L st.args.n st.args.entries.now F cells.new.0 (cells.ensures L F)),
-      (
-        (st.requires.1.0, st.requires.1.1, d),
-        number_small L st.args.n st.args.entries.now F counts.new.1.1.0 (replicate 4096 0) counts.ensures,
-      ),
+      (st.requires.1.0, st.requires.1.1, d),
     )
 
 returns : tie.Need-returns

@@ -18,19 +18,19 @@ use Rattle.basins.proofs.look_up.Tie as tie
 abbrev number_of : (numbers entries : List ℕ) → ℕ → ℕ
 number_of numbers entries d = at numbers (at entries d)
 
-abbrev labelFrom : (numbers marks entries : List ℕ) → ℕ → ℕ
-labelFrom numbers marks entries d = label_by (is_outlet marks (at entries d)) (at numbers (at entries d))
+abbrev labelFrom : (n : ℕ) (numbers marks entries : List ℕ) → ℕ → ℕ
+labelFrom n numbers marks entries d = label_by n (is_outlet marks (at entries d)) (at numbers (at entries d))
 
 abbrev invariant-loop : tie.invariant-loop
-invariant-loop numbers marks n entries₀ labels₀ c₀ entries labels c =
+invariant-loop numbers marks n entries₀ labels₀ all c₀ entries labels c =
     (c ≤ n)
     × (length entries ≡ length entries₀)
     × (length labels ≡ length labels₀)
     × (entries ≡ filled (number_of numbers entries₀) c entries₀)
-    × (labels ≡ filled (labelFrom numbers marks entries₀) c labels₀)
+    × (labels ≡ filled (labelFrom n numbers marks entries₀) c labels₀)
 
 abbrev decreases-loop : tie.decreases-loop
-decreases-loop numbers marks n entries₀ labels₀ c₀ entries labels c = n - c
+decreases-loop numbers marks n entries₀ labels₀ all c₀ entries labels c = n - c
 
 loop-holds : tie.Need-loop-init invariant-loop decreases-loop
 loop-holds c = (omega arith, refl, refl, sym (filled_none _ _), sym (filled_none _ _))
@@ -55,13 +55,7 @@ in_tile : (c : tie.In-loop invariant-loop decreases-loop)
     × (a.n ≤ 4096)
 in_tile c =
     let p = (start c).requires in
-    (rw (as_before c) (p.0.2 c.before.loop.c c.loop-test.true), p.0.0, p.1.0.0, p.1.0.2)
-
-label-of-requires : tie.Need-label-of-requires invariant-loop decreases-loop
-label-of-requires c κs =
-    let test = c.before.before.before.before in
-    let p = (start test).requires in
-    p.1.1 _ (in_tile test).0
+    (rw (as_before c) (p.0.2 c.before.loop.c c.loop-test.true), p.0.0, p.1.0, p.1.2)
 
 loop-again : tie.Need-loop-preserved invariant-loop decreases-loop
 loop-again c =
@@ -70,7 +64,7 @@ loop-again c =
     let st = lp.before.before.before.before.before in
     let same : at lp.loop.entries lp.loop.c ≡ at st.args.entries.now lp.loop.c = as_before test in
     let f = number_of st.args.numbers.now st.args.entries.now in
-    let g = labelFrom st.args.numbers.now st.args.marks.now st.args.entries.now in (
+    let g = labelFrom st.args.n st.args.numbers.now st.args.marks.now st.args.entries.now in (
       omega arith,
       simp length-set lp.loop.invariant.1,
       simp length-set lp.loop.invariant.2,
@@ -78,7 +72,7 @@ loop-again c =
           ∙ rw lp.loop.invariant.3 (filled_next f lp.loop.c st.args.entries.now (omega arith)),
       ap (set lp.loop.labels lp.loop.c)
           (rw c.before.is_outlet_lem.ensures at c.label_of.ensures
-          ∙ ap (λ (d : ℕ). label_by (is_outlet st.args.marks.now d) (at st.args.numbers.now d)) same)
+          ∙ ap (λ (d : ℕ). label_by st.args.n (is_outlet st.args.marks.now d) (at st.args.numbers.now d)) same)
           ∙ rw lp.loop.invariant.4 (filled_next g lp.loop.c st.args.labels.now (omega (arith, st.requires.1))),
     )
 
@@ -87,7 +81,7 @@ returns c =
     let lp = c.before in
     let st = lp.before.before.before.before.before in
     let f = number_of st.args.numbers.now st.args.entries.now in
-    let g = labelFrom st.args.numbers.now st.args.marks.now st.args.entries.now in
+    let g = labelFrom st.args.n st.args.numbers.now st.args.marks.now st.args.entries.now in
     let e : lp.loop.c ≡ st.args.n = omega arith in (
       lp.loop.invariant.3 ∙ ap (λ (i : ℕ). filled f i st.args.entries.now) e,
       lp.loop.invariant.4 ∙ ap (λ (i : ℕ). filled g i st.args.labels.now) e,
@@ -99,6 +93,7 @@ look-up-spec =
     (tie.spec
     invariant-loop
     decreases-loop
+    (λ c. search rules)
     loop-holds
     (λ c. search rules) (λ c. search rules)
     (λ c. omega (arith, in_tile c.before))
@@ -106,9 +101,8 @@ look-up-spec =
     (λ c. omega (arith, in_tile c.before.before))
     (λ c. search rules) (λ c. search rules)
     (λ c. omega (arith, in_tile c.before.before.before))
-    (λ c κs. search rules)
-    label-of-requires
-    (λ c. search rules) (λ c. search rules) (λ c. search rules) (λ c. search rules)
+    (λ c κs. search rules) (λ c κs. search rules) (λ c. search rules) (λ c. search rules) (λ c. search rules)
+    (λ c. search rules)
     loop-again
     (λ c. c.before.loop.invariant.1)
     (λ c. c.before.loop.invariant.2)

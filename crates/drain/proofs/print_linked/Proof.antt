@@ -16,20 +16,20 @@ use Rattle.drain.proofs.print_linked.Tie as tie
 
 walk-record-requires : tie.Need-walk-record-requires
 walk-record-requires c κs =
-    let st = c.before.before.before.before.before.before.before.before.before in
+    let st = c.before.before.before.before.before.before.before.before.before.before in
     let few = st.requires.0.few in
-    (st.requires.0, ((Carve, st.requires.1.0), record { fits_stack = few; fits_order = few; fits_receivers = few; fits_levels = few; fits_wets = few }))
+    (st.requires.0, (st.requires.1.0, record { fits_stack = few; fits_order = few; fits_receivers = few; fits_levels = few; fits_wets = few }))
 
 print-lists-requires : tie.Need-print-lists-requires
 print-lists-requires c κs =
-    let at-walk = c.before.before.before.before.before.before.before.before.before in
-    let st = at-walk.before.before.before.before.before.before.before.before.before.before in
+    let at-walk = c.before.before.before.before.before.before.before.before.before.before.before in
+    let st = at-walk.before.before.before.before.before.before.before.before.before.before.before in
     let g = ground_in st.args.bytes.now st.args.width st.args.height in
     let n = cells_of g in
     let net = lifted_network_of g in
     let F = network_full Four Carve g st.requires.0.good in
     let zeros : List ℕ = replicate 4096 0 in
-    let e = at-walk.walk-record.ensures Carve st.requires.1.0 in
+    let e = at-walk.walk-record.ensures in
     let receivers = overwrite-take net.receivers zeros n F.receivers_full e.receivers_are in
     let levels = overwrite-take net.levels zeros n F.levels_full e.levels_are in
     let drainage = overwrite-take net.drainage zeros n F.drainage_full e.drainage_is in
@@ -43,4 +43,4 @@ print-linked-spec =
     walk-record-requires
     (λ c. search rules) (λ c. search rules) (λ c. search rules)
     print-lists-requires
-    (λ c. search rules) (λ c. search rules))
+    (λ c. search rules) (λ c. search rules) (λ c. search rules))

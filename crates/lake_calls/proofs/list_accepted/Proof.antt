@@ -13,12 +13,13 @@ use Rattle.ground.specs.Record.{ground_of_lists}
 use Rattle.lake_list.specs.Rows.{FoundIn}
 use Rattle.lake_stages.proofs.FoundLakes.{found_read}
 use Rattle.lake_stages.specs.LakesOn.{lakes_on, too_deep_on}
+use Rattle.lake_stages.specs.Levels.{levels_on}
 use Rattle.lake_stages.specs.ReadFound.{ReadFound}
 use Rattle.network.proofs.Grounds.{good_tile, lifted_full, lifted_taken}
 use Rattle.network.proofs.Networks.{tile-is-land}
 use Rattle.rules.specs.Ground.{cells_of, Ground, lifted}
 use Rattle.rules.specs.Land.{Land, rule4}
-use Rattle.rules.specs.Network.{carved_levels, lifted_network_in}
+use Rattle.rules.specs.Network.{lifted_network_in}
 use Rattle.rules.specs.Tile.{LawfulTile, tile_land}
 use Rattle.grid.specs.declared.Neighbours.TheVariants.{Four}
 use Rattle.lake_calls.proofs.list_accepted.Statement.{statement}
@@ -58,10 +59,10 @@ lifting c = c.before.before.before.before
 
 read_here : (c : tie.After-tile-lakes) (water : List ℕ) → let g = groundWith (lifting c) water in
     Good g → ReadFound (too_deep_on g) (lakes_on g) c.tile-lakes.result c.tile-lakes.new.1.1.1.0
-unfolding lifted_network_in
+unfolding levels_on lifted_network_in
 read_here c water G =
     let g = groundWith (lifting c) water in
-    let Found : Land → Type 0 = λ L. FoundIn L (carved_levels L) c.tile-lakes.result c.tile-lakes.new.1.1.1.0 in
+    let Found : Land → Type 0 = λ L. FoundIn L (levels_on L) c.tile-lakes.result c.tile-lakes.new.1.1.1.0 in
     let long = c.tile-lakes.auto.1.1.1.0 in
     found_read g G c.tile-lakes.new.1.1.1.0 (omega (arith, long, good_few g G))
     (subst Found (tile-is-land Four g G)

@@ -2,17 +2,18 @@
 -- Assumes nothing.
 use mathlib.Core.List.{List, map}
 use mathlib.Core.Path.{subst, sym, ◌∙◌, ◌≡◌}
-use Prim.Native.Nat.{ℕ, ◌*◌}
+use Prim.Native.Nat.{ℕ, ◌*◌, ◌-◌}
 use native.Mathlib.Omega.{arith}
 use lib.ListN.{length, replicate, take}
 use borrow.Author.Rules.{rules}
 use Rattle.ground.specs.Record.{ground_in}
 use Rattle.lake_list.specs.Rows.{FoundIn}
+use Rattle.lake_stages.specs.Levels.{levels_on}
 use Rattle.record_stages.proofs.LinkedRecord.{read_full, read_land, read_tile}
 use Rattle.record_stages.proofs.Reading.{heights_are, in_range-at}
 use Rattle.rules.specs.Ground.{lifted}
 use Rattle.rules.specs.Land.{Land}
-use Rattle.rules.specs.Network.{carved_levels, lifted_network_in}
+use Rattle.rules.specs.Network.{lifted_network_in}
 use Rattle.grid.specs.declared.Neighbours.TheVariants.{Four}
 use Rattle.lake_stages.proofs.record_lakes.Statement.{statement}
 use Rattle.lake_stages.proofs.record_lakes.Tie as tie
@@ -68,13 +69,13 @@ tile-lakes-requires c κs =
     )
 
 returns : tie.Need-returns
-unfolding lifted_network_in
+unfolding levels_on lifted_network_in
 returns c =
     let at-tile = c.before.before in
     let at-lift = at-tile.before.before.before.before.before in
     let st = start at-lift in
     let a = st.args in
-    subst (λ (L : Land). FoundIn L (carved_levels L) at-tile.tile-lakes.result at-tile.tile-lakes.new.1.1.1.0)
+    subst (λ (L : Land). FoundIn L (levels_on L) at-tile.tile-lakes.result at-tile.tile-lakes.new.1.1.1.0)
     (read_land Four a.bytes.now a.width a.height st.pre.0.good (count at-lift) (counted at-lift) (heights at-lift) (heights_read at-lift))
     at-tile.tile-lakes.ensures
 

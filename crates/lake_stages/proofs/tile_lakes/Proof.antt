@@ -9,9 +9,9 @@ use Rattle.lake_list.specs.Rows.{FoundIn}
 use Rattle.lake_notes.specs.Noting.{Levelled}
 use Rattle.lake_rules.specs.LocalLevels.{Local}
 use Rattle.lake_stages.proofs.TileLevels.{levels_many, tile_levelled, tile_local}
+use Rattle.lake_stages.specs.Levels.{levels_on}
 use Rattle.lists.proofs.Overwrite.{overwrite-take}
 use Rattle.rules.specs.Land.{Land, rule4}
-use Rattle.rules.specs.Network.{carved_levels}
 use Rattle.rules.specs.Tile.{tile_land}
 use Rattle.lake_stages.proofs.tile_lakes.Statement.{statement}
 use Rattle.lake_stages.proofs.tile_lakes.Tie as tie
@@ -26,10 +26,10 @@ land c = let a = (start c).args in tile_land rule4 a.w a.heights.now a.marks.now
 abbrev levels : tie.After-find-levels → List ℕ
 levels c = c.find-levels.new.1.1.1.0
 
-levels-here : (c : tie.After-find-levels) → take (length (start c).args.heights.now) (levels c) ≡ carved_levels (land c)
+levels-here : (c : tie.After-find-levels) → take (length (start c).args.heights.now) (levels c) ≡ levels_on (land c)
 levels-here c =
     let a = (start c).args in
-    overwrite-take (carved_levels (land c)) (replicate 4096 0) (length a.heights.now)
+    overwrite-take (levels_on (land c)) (replicate 4096 0) (length a.heights.now)
     (levels_many a.w a.heights.now a.marks.now (start c).requires.0) c.find-levels.ensures
 
 slice-aggregate-list-lakes : tie.Need-slice-aggregate-list-lakes

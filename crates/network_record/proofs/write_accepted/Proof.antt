@@ -1,9 +1,10 @@
 -- `network_record::write_accepted` meets its contract: what linking leaves is what writing asks for.
 -- Assumes nothing.
+use mathlib.Core.Path.{◌∙◌}
 use lib.ListN.{replicate}
 use borrow.Author.Rules.{rules}
 use Rattle.ground.specs.Record.{ground_in}
-use Rattle.network.proofs.Networks.{network_full}
+use Rattle.network.proofs.Networks.{network_full, one_basins}
 use Rattle.lists.proofs.Overwrite.{overwrite-take}
 use Rattle.rules.specs.Ground.{cells_of}
 use Rattle.rules.specs.Network.{lifted_network_by}
@@ -19,13 +20,8 @@ write-linked-requires c κs =
     let linked = at-links.link-record.ensures in
     let full = (network_full st.args.neighbours Carve g st.requires.0.good).basins_full in
     let basins = overwrite-take (lifted_network_by st.args.neighbours Carve g).basins (replicate 4096 0) (cells_of g) full linked.basins_are in
-    (st.requires.0, ((st.args.manner, linked.linked), (basins, st.requires.1)))
-
-returns : tie.Need-returns
-returns c =
-    let at-links = c.before.before.before.before.before.before.before.before.before.before in
-    let st = at-links.before.before.before.before.before.before in
-    c.before.before.write-linked.ensures st.args.manner at-links.link-record.ensures.linked
+    let links-length = at-links.link-record.auto.1.1.1.1.1.1.0 in
+    (st.requires.0, ((linked.linked, links-length), (basins ∙ one_basins st.args.neighbours st.args.manner g, st.requires.1)))
 
 pub write-accepted-spec : {M : Type 1} → statement M
 write-accepted-spec =
@@ -34,5 +30,4 @@ write-accepted-spec =
     (λ c. search rules) (λ c. search rules) (λ c. search rules) (λ c κs. search rules) (λ c. search rules)
     (λ c. search rules) (λ c. search rules)
     write-linked-requires
-    (λ c. search rules)
-    returns)
+    (λ c. search rules) (λ c. search rules))

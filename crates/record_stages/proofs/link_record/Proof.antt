@@ -1,17 +1,15 @@
 -- `record_stages::link_record` meets its contract: what is read is a tile of the ground, and its cells are linked.
 -- Assumes nothing.
 use mathlib.Core.List.{List, map}
-use mathlib.Core.Path.{subst, sym, ◌∙◌, ◌≡◌}
-use Prim.Native.Nat.{ℕ, ◌*◌, ◌-◌, ◌≤◌}
+use mathlib.Core.Path.{sym, ◌∙◌, ◌≡◌}
+use Prim.Native.Nat.{ℕ, ◌*◌}
 use native.Mathlib.Omega.{arith}
-use lib.ListN.{drop, length, length-append, take}
+use lib.ListN.{length, take}
 use borrow.Author.Rules.{rules}
 use Rattle.ground.specs.Record.{ground_in}
-use Rattle.lists.specs.Lists.{stretch}
-use Rattle.record_stages.proofs.LinkedRecord.{again_are, linked_record, read_basins, read_full, read_tile}
+use Rattle.record_stages.proofs.LinkedRecord.{linked_record, read_basins, read_full, read_tile}
 use Rattle.record_stages.proofs.Reading.{in_range-at, heights_are}
 use Rattle.rules.specs.Ground.{lifted}
-use Rattle.stages.specs.Linking.{LinksOf}
 use Rattle.record_stages.proofs.link_record.Statement.{statement}
 use Rattle.record_stages.proofs.link_record.Tie as tie
 
@@ -50,11 +48,11 @@ lift-record-requires c κs =
     let fits = st.requires.1.0 in
     (omega arith, omega arith, in_range-at a.bytes.now a.width a.height R.good c.before.cells.result z)
 
-slice-aggregate-link-tile : tie.Need-slice-aggregate-link-tile
-slice-aggregate-link-tile c = let at-lift = c.before.before.before in counted at-lift ∙ sym (heights-long at-lift)
+slice-aggregate-link-cells : tie.Need-slice-aggregate-link-cells
+slice-aggregate-link-cells c = let at-lift = c.before.before.before in counted at-lift ∙ sym (heights-long at-lift)
 
-link-tile-requires : tie.Need-link-tile-requires
-link-tile-requires c κs =
+link-cells-requires : tie.Need-link-cells-requires
+link-cells-requires c κs =
     let at-lift = c.before.before.before.before.before.before in
     let st = start at-lift in
     let a = st.args in
@@ -68,28 +66,9 @@ link-tile-requires c κs =
       (omega (arith, long, room.1), room.2),
     )
 
--- the heights' list has room for the cells, as it was left by lifting and by linking
-room-lifted : (c : tie.After-lift-record) → count c ≤ length (heights c)
-room-lifted c = let z = counted c in omega (arith, z, (start c).requires.1.0, c.lift-record.auto.1.1.0)
-
-lift-again-requires : tie.Need-lift-again-requires
-lift-again-requires c κs =
-    let at-link = c.before.before.before.before.before.before.before in
-    let at-lift = at-link.before.before.before.before.before.before.before in
-    let st = start at-lift in
-    let a = st.args in
-    let z = counted at-lift in
-    let long : length at-link.link-tile.new.1.1.1.0 ≡ count at-lift =
-    at-link.link-tile.auto.1.1.1.0 ∙ heights-long at-lift ∙ sym z in (
-      omega (arith, z, st.pre.0.long),
-      omega (arith, long, length-append at-link.link-tile.new.1.1.1.0 (drop (count at-lift) (heights at-lift))),
-      in_range-at a.bytes.now a.width a.height st.pre.0.good (count at-lift) z,
-    )
-
 returns : tie.Need-returns
 returns c =
-    let at_again = c.before.before in
-    let at-links = at_again.before.before.before.before.before.before.before.before in
+    let at-links = c.before.before.before.before in
     let at-lift = at-links.before.before.before.before.before.before.before in
     let st = start at-lift in
     let a = st.args in
@@ -98,14 +77,9 @@ returns c =
     let n = count at-lift in
     let z = counted at-lift in
     let t = heights_read at-lift in
-    let found = at-links.link-tile.ensures in
-    let u = again_are a.manner s a.width a.height G n z (heights at-lift) _ _ (room-lifted at-lift) t found.stays
-    at_again.lift-again.ensures in
+    let found = at-links.link-cells.ensures in
     record {
-      linked =
-          linked_record a.neighbours s a.width a.height G n z at_again.lift-again.new.1.1.1.0 u a.manner
-          (subst (λ (l : List ℕ). LinksOf a.neighbours a.manner a.width l (stretch (4 * n) (5 * n - 4 * n) s)
-          at-links.link-tile.new.1.1.1.1.1.1.0) (t ∙ sym u) found.links_are);
+      linked = linked_record a.neighbours s a.width a.height G n z (heights at-lift) t found.links_are;
       basins_are = read_basins a.neighbours s a.width a.height G n z (heights at-lift) t a.basins.now found.basins_are;
     }
 
@@ -116,9 +90,8 @@ link-record-spec =
     (λ c κs. search rules) (λ c. search rules) (λ c. search rules)
     lift-record-requires
     (λ c. search rules)
-    slice-aggregate-link-tile
+    slice-aggregate-link-cells
     (λ c. search rules) (λ c. search rules) (λ c. search rules)
-    link-tile-requires
-    lift-again-requires
+    link-cells-requires
     (λ c. search rules) (λ c. search rules) (λ c. search rules)
     returns)

@@ -10,9 +10,7 @@ use borrow.Author.Rules.{rules}
 use Rattle.drainage.specs.Giving.{Ordered}
 use Rattle.ground.specs.Record.{ground_in}
 use Rattle.lists.specs.Lists.{stretch}
-use Rattle.manners.proofs.Walks.{tile_walked}
 use Rattle.record_stages.proofs.LinkedRecord.{heights_here, linked_here, read_full, read_network, read_tile}
-use Rattle.record_stages.specs.LinkedRecord.{LinkedRecord}
 use Rattle.rules.specs.Ground.{lifted}
 use Rattle.rules.specs.Land.{Land, rule_by}
 use Rattle.rules.specs.Network.{Network, receivers_by}
@@ -20,9 +18,8 @@ use Rattle.rules.specs.SixLists.{onto, six_lists}
 use Rattle.rules.specs.Tile.{LawfulTile, tile_land}
 use Rattle.sections.specs.LittleEndian.{numbers_at}
 use Rattle.stages.proofs.Stages.{ordered, worked}
-use Rattle.stages.specs.Linking.{LinksOf}
-use Rattle.walk.specs.Walk.{Lent, lent, LentHolds, WalkedWhole}
-use Rattle.rules.specs.declared.Manner.{Manner}
+use Rattle.stages.specs.Linking.{Linked}
+use Rattle.walk.specs.Walk.{Lent, lent, LentHolds}
 use Rattle.record_stages.proofs.walk_record.Statement.{statement}
 use Rattle.record_stages.proofs.walk_record.Tie as tie
 
@@ -39,21 +36,16 @@ marks c = let n = c.cells.result in stretch (4 * n) (5 * n - 4 * n) (start c).ar
 abbrev tile : tie.After-cells → Land
 tile c = tile_land (rule_by (start c).args.neighbours) (start c).args.width (heights c) (marks c)
 
--- linked in this manner
-abbrev LinkedIn : tie.After-cells → Manner → Type 0
-LinkedIn c M = let a = (start c).args in LinkedRecord a.neighbours M a.bytes.now a.width a.height a.lifted.now a.links.now
-
-links_are : (c : tie.After-cells) (M : Manner) → LinkedIn c M
-    → LinksOf (start c).args.neighbours M (start c).args.width (heights c) (marks c) (start c).args.links.now
-links_are c M K =
+links_are : (c : tie.After-cells) → Linked (rule_by (start c).args.neighbours) (start c).args.width (heights c) (marks c) (start c).args.links.now
+links_are c =
     let a = (start c).args in
-    linked_here a.neighbours a.bytes.now a.width a.height (start c).requires.0.good c.cells.result c.cells.ensures K
+    linked_here a.neighbours a.bytes.now a.width a.height (start c).requires.0.good c.cells.result c.cells.ensures (start c).requires.1.0.0
 
 heights_are : (c : tie.After-cells)
     → let a = (start c).args in heights c ≡ map lifted (ground_in a.bytes.now a.width a.height).heights
 heights_are c =
     let a = (start c).args in
-    heights_here a.neighbours a.bytes.now a.width a.height (start c).requires.0.good c.cells.result c.cells.ensures (start c).requires.1.0.1
+    heights_here a.neighbours a.bytes.now a.width a.height (start c).requires.0.good c.cells.result c.cells.ensures (start c).requires.1.0.0
 
 heights_full : (c : tie.After-cells) → length (heights c) ≡ (start c).args.height * (start c).args.width
 heights_full c =
@@ -76,50 +68,40 @@ room c =
     subst (λ (n : ℕ). LentHolds n lists) (sym (heights_full c)) (start c).requires.1.1
 
 -- where the cells were counted
-abbrev counting : tie.After-walk-links → tie.After-cells
-counting c = c.before.before.before.before.before.before.before.before
+abbrev counting : tie.After-walk-by → tie.After-cells
+counting c = c.before.before.before.before.before.before.before.before.before
 
 -- the walk's lists, as it left them
-abbrev after : tie.After-walk-links → Lent
+abbrev after : tie.After-walk-by → Lent
 after c =
-    let lists = c.walk-links.new.1.1.1.1.1 in
+    let lists = c.walk-by.new.1.1.1.1.1.1 in
     lent lists.0 lists.1.0 lists.1.1.0 lists.1.1.1.0 lists.1.1.1.1.0
 
--- what the walk left
-walked : (c : tie.After-walk-links) (M : Manner) → LinkedIn (counting c) M
-    → let a = (start (counting c)).args in
-    WalkedWhole (tile (counting c)) (receivers_by M (tile (counting c)))
-    (lent a.drainage.now a.order.now a.receivers.now a.levels.now a.wet.now) (after c)
-walked c M K =
-    let L = links_are (counting c) M K in
-    tile_walked (tile-is (counting c)) L (room (counting c)) (c.walk-links.ensures (receivers_by M (tile (counting c))) L)
-
--- it is what drainage asks for
-drainable : (c : tie.After-walk-links) (M : Manner) → LinkedIn (counting c) M
+-- what the walk left is what drainage asks for
+drainable : (c : tie.After-walk-by)
     → let at_count = counting c in
-    Ordered (tile at_count) (receivers_by M (tile at_count)) at_count.cells.result (after c).order (after c).receivers
-drainable c M K =
+    Ordered (tile at_count) (receivers_by (start at_count).args.manner (tile at_count)) at_count.cells.result (after c).order (after c).receivers
+drainable c =
     let at_count = counting c in
-    ordered (tile-is at_count) M (walked c M K) at_count.cells.result (at_count.cells.ensures ∙ sym (heights_full at_count))
+    ordered (tile-is at_count) (start at_count).args.manner c.walk-by.ensures at_count.cells.result
+    (at_count.cells.ensures ∙ sym (heights_full at_count))
 
-slice-aggregate-walk-links : tie.Need-slice-aggregate-walk-links
-slice-aggregate-walk-links c = c.before.cells.ensures ∙ sym (heights_full c.before)
+slice-aggregate-walk-by : tie.Need-slice-aggregate-walk-by
+slice-aggregate-walk-by c = c.before.cells.ensures ∙ sym (heights_full c.before)
 
-walk-links-requires : tie.Need-walk-links-requires
-walk-links-requires c κs =
-    let at_count = c.before.before.before.before.before.before.before in
-    let (M, K) = (start at_count).requires.1.0 in
-    ((receivers_by M (tile at_count), links_are at_count M K), room at_count)
+walk-by-requires : tie.Need-walk-by-requires
+walk-by-requires c κs =
+    let at_count = c.before.before.before.before.before.before.before.before in
+    ((tile-is at_count, (start at_count).requires.1.0.1), (links_are at_count, room at_count))
 
 drain-section-requires : tie.Need-drain-section-requires
 drain-section-requires c κs =
-    let at-walk = c.before.before.before.before.before.before.before.before.before.before.before.before.before in
+    let at-walk = c.before.before.before.before.before.before.before.before.before.before.before.before.before.before.before in
     let at_count = counting at-walk in
     let st = start at_count in
-    let (M, K) = st.pre.1.0 in
     let z = at_count.cells.ensures in
-    let k : length (after at-walk).stack ≡ length st.args.drainage.now = at-walk.walk-links.auto.1.1.1.1.1.0 in (
-      (tile at_count, receivers_by M (tile at_count), drainable at-walk M K),
+    let k : length (after at-walk).stack ≡ length st.args.drainage.now = at-walk.walk-by.auto.1.1.1.1.1.1.0 in (
+      (tile at_count, receivers_by st.args.manner (tile at_count), drainable at-walk),
       (omega (arith, z, st.pre.0.long), omega (arith, z, st.pre.1.1.fits_stack, k)),
     )
 
@@ -127,7 +109,7 @@ drain-section-requires c κs =
 returns : tie.Need-returns
 returns c =
     let at-drain = c.before.before in
-    let at-walk = at-drain.before.before.before.before.before.before.before.before.before.before.before.before.before.before in
+    let at-walk = at-drain.before.before.before.before.before.before.before.before.before.before.before.before.before.before.before.before in
     let at_count = counting at-walk in
     let st = start at_count in
     let a = st.args in
@@ -135,13 +117,12 @@ returns c =
     let n = at_count.cells.result in
     let z = at_count.cells.ensures in
     let L = tile at_count in
-    λ M K.
     let lists = six_lists a.receivers.now [] a.order.now a.levels.now a.drainage.now a.wet.now in
     let e =
-    worked (tile-is at_count) M (walked at-walk M K) [] (numbers_at 2 s (5 * n) n) n
-    (z ∙ sym (heights_full at_count)) refl (at-drain.drain-section.ensures L (receivers_by M L) (drainable at-walk M K))
+    worked (tile-is at_count) a.manner at-walk.walk-by.ensures [] (numbers_at 2 s (5 * n) n) n
+    (z ∙ sym (heights_full at_count)) refl (at-drain.drain-section.ensures L (receivers_by a.manner L) (drainable at-walk))
     ∙ ap (λ (net : Network ℕ). onto net lists)
-    (read_network a.neighbours s a.width a.height st.pre.0.good n z a.lifted.now (heights_are at_count) M) in
+    (read_network a.neighbours s a.width a.height st.pre.0.good n z a.lifted.now (heights_are at_count) a.manner) in
     let receivers = ap (λ (t : Network ℕ). t.receivers) e in
     let order = ap (λ (t : Network ℕ). t.order) e in
     let levels = ap (λ (t : Network ℕ). t.levels) e in
@@ -154,9 +135,9 @@ walk-record-spec =
     tie.close
     (tie.spec
     (λ c κs. search rules) (λ c. search rules) (λ c. search rules)
-    slice-aggregate-walk-links
+    slice-aggregate-walk-by
     (λ c. search rules) (λ c. search rules) (λ c. search rules)
-    walk-links-requires
+    walk-by-requires
     drain-section-requires
-    (λ c. search rules) (λ c. search rules) (λ c. search rules) (λ c. search rules) (λ c. search rules)
+    (λ c. search rules) (λ c. search rules) (λ c. search rules) (λ c. search rules) (λ c. search rules) (λ c. search rules)
     returns)

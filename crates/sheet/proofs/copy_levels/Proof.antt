@@ -3,7 +3,7 @@
 use Rattle.std.proofs.Common.{◌≡◌, ℕ, ◌-◌, ◌≤◌, List, length, sym, refl, ap, ◌∙◌, arith, length-set, rules}
 use Rattle.lists.proofs.Tab.{tab-is}
 use Rattle.lists.specs.Lists.{at, stored, tab}
-use Rattle.lists.proofs.StoredTables.{stored-none, stored_put}
+use Rattle.sheet.proofs.Margins.{stored-none, stored_put}
 use Rattle.sheet.proofs.copy_levels.Statement.{statement}
 use Rattle.sheet.proofs.copy_levels.Tie as tie
 
@@ -15,7 +15,7 @@ abbrev decreases-loop : tie.decreases-loop
 decreases-loop levels labels₀ c₀ labels c = length levels - c
 
 loop-holds : tie.Need-loop-init invariant-loop decreases-loop
-loop-holds c = (omega arith, refl, sym (stored-none 65 (at c.args.levels.now) c.args.labels.now))
+loop-holds c = (omega arith, refl, sym (stored-none (at c.args.levels.now) c.args.labels.now))
 
 loop-again : tie.Need-loop-preserved invariant-loop decreases-loop
 loop-again c =
@@ -24,7 +24,7 @@ loop-again c =
     let i = lp.loop.invariant in (
       search rules,
       simp length-set i.1,
-      stored_put 65 (at a.levels.now) a.labels.now lp.loop.c _ (search rules) i.1 i.2 refl,
+      stored_put (at a.levels.now) a.labels.now lp.loop.c _ (search rules) i.1 i.2 refl,
     )
 
 returns : tie.Need-returns invariant-loop decreases-loop

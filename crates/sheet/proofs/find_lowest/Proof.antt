@@ -1,7 +1,7 @@
 -- `sheet::find_lowest` meets its contract: the first n masks and the levels with a margin are what both passes ask for (Lowering).
 -- Assumes nothing.
 use Rattle.std.proofs.Common.{ℕ, length, take, replicate, sym, arith, rules}
-use lib.ListN.{get_or-replicate, length-replicate}
+use lib.ListN.{length-replicate}
 use Rattle.lists.proofs.Filled.{filled-take}
 use Rattle.sheet.proofs.Lowering.{Laid, levelled, likes_are, lowest_are, masks_length}
 use Rattle.sheet.proofs.find_lowest.Statement.{statement}
@@ -18,9 +18,8 @@ laid c =
     record {
       tile = st.pre.0;
       masks_are = filled-take _ _ _ c.before.before.before.neighbour-masks.ensures;
-      old = replicate 4226 16777215;
-      room = omega (arith, st.pre.0.grid.few, length-replicate {A = ℕ} 4226 16777215);
-      high = λ i h. get_or-replicate {A = ℕ} 4226 i 16777215 0 (omega (arith, length-replicate {A = ℕ} 4226 16777215));
+      old = replicate 4226 0;
+      room = omega (arith, st.pre.0.grid.few, length-replicate {A = ℕ} 4226 0);
       labels_are = c.copy-levels.ensures;
     }
 

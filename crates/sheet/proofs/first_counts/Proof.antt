@@ -2,7 +2,7 @@
 -- Assumes nothing.
 use Rattle.std.proofs.Common.{◌≡◌, ℕ, ◌-◌, ◌≤◌, length, sym, refl, ap, ◌∙◌, arith, length-set, rules}
 use Rattle.lists.specs.Lists.{stored, tab}
-use Rattle.lists.proofs.StoredTables.{stored-none, stored_put}
+use Rattle.sheet.proofs.Margins.{stored-none, stored_put}
 use Rattle.sheet.specs.LevelSteps.{first_count}
 use Rattle.sheet.proofs.first_counts.Statement.{statement}
 use Rattle.sheet.proofs.first_counts.Tie as tie
@@ -17,7 +17,7 @@ decreases-loop weights marks counts₀ c₀ counts c = length marks - c
 loop-holds : tie.Need-loop-init invariant-loop decreases-loop
 loop-holds c =
     let a = c.before.before.before.args in
-    (omega arith, refl, sym (stored-none 65 (first_count a.weights.now a.marks.now) a.counts.now))
+    (omega arith, refl, sym (stored-none (first_count a.weights.now a.marks.now) a.counts.now))
 
 loop-again : tie.Need-loop-preserved invariant-loop decreases-loop
 loop-again c =
@@ -28,7 +28,7 @@ loop-again c =
       search rules,
       simp length-set i.1,
       rw c.first_count.ensures
-          (stored_put 65 (first_count a.weights.now a.marks.now) a.counts.now lp.loop.c _ (search rules) i.1 i.2 refl),
+          (stored_put (first_count a.weights.now a.marks.now) a.counts.now lp.loop.c _ (search rules) i.1 i.2 refl),
     )
 
 returns : tie.Need-returns invariant-loop decreases-loop

@@ -12,14 +12,14 @@ use Rattle.spread.proofs.one_if_begins.Tie as tie
 
 returns : tie.Need-returns
 returns c =
-    let some : not (eqb c.before.before.args.ways 0) ≡ true = c.if2.true in
+    let some : not (eqb c.before.before.args.mask 0) ≡ true = c.if2.true in
     (rw (eq-eqb _ _ c.before.if1.true, some), omega arith)
 
 returns-2 : tie.Need-returns-2
 returns-2 c =
     let a = c.before.args in
-    let none : ◌≡◌ {A = ℕ} 0 (cond (eqb a.blank 0 && not (eqb a.ways 0)) 1 0) =
-    ⊎_elim (λ w. let no : not (eqb a.ways 0) ≡ false = w.1.left in rw (eq-eqb _ _ w.0.taken, no)) (λ w. rw (ne_eqb _ _ w.left)) c.if1.branch in
+    let none : ◌≡◌ {A = ℕ} 0 (cond (eqb a.count 0 && not (eqb a.mask 0)) 1 0) =
+    ⊎_elim (λ w. let no : not (eqb a.mask 0) ≡ false = w.1.left in rw (eq-eqb _ _ w.0.taken, no)) (λ w. rw (ne_eqb _ _ w.left)) c.if1.branch in
     (none, omega arith)
 
 pub one-if-begins-spec : {M : Type 1} → statement M

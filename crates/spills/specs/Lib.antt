@@ -1,2 +1,0 @@
-pub mod Spills
-pub mod Noting

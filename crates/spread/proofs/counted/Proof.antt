@@ -1,0 +1,14 @@
+-- `spread::counted` meets its contract. The two arms of the test.
+-- Assumes nothing.
+use borrow.Author.Tests.{eq-eqb, ne_eqb}
+use Rattle.spread.proofs.counted.Statement.{statement}
+use Rattle.spread.proofs.counted.Tie as tie
+
+returns : tie.Need-returns
+returns c = rw (eq-eqb _ _ c.if1.true)
+
+returns-2 : tie.Need-returns-2
+returns-2 c = rw (ne_eqb _ _ c.if1.false)
+
+pub counted_spec : {M : Type 1} → statement M
+counted_spec = tie.close (tie.spec returns returns-2)

@@ -1,0 +1,15 @@
+-- `spread::taken` meets its contract. The two arms of the test.
+-- Assumes nothing.
+use native.Mathlib.Omega.{arith}
+use borrow.Author.Tests.{eq-eqb, ne_eqb}
+use Rattle.spread.proofs.taken.Statement.{statement}
+use Rattle.spread.proofs.taken.Tie as tie
+
+returns : tie.Need-returns
+returns c = (rw (eq-eqb _ _ c.if1.true), omega arith)
+
+returns-2 : tie.Need-returns-2
+returns-2 c = (rw (ne_eqb _ _ c.if1.false), omega arith)
+
+pub taken-spec : {M : Type 1} → statement M
+taken-spec = tie.close (tie.spec returns returns-2)
