@@ -1,5 +1,7 @@
 // Rule 1 by least keys: for each cell where its first receiver stands, as a weight, which is the bit of that place of its window, and 0
 // for outlets and pits; first receivers from weights. No step branches on heights, so that the compiler can take many cells at once.
+#![tactic(auto)]
+
 ghost use Rattle.std.specs.Prelude.{◌≡◌, ℕ, ◌+◌, ◌*◌, ◌<◌, ◌≤◌, min, List, length, if◌then◌else◌, nat_eq};
 ghost use Rattle.first_receivers.specs.Weights as S;
 ghost use Rattle.grid.specs.Masks.{mask_of};

@@ -1,5 +1,7 @@
 // Grounds judged (document 01, "Ground" and "Numbers given back"): a record or lists are accepted, or refused with the first row of
 // the table that holds, in the table's order. specs/Record.antt has the format and specs/Judge.antt the judgement.
+#![tactic(auto)]
+
 ghost use Rattle.std.specs.Prelude.{[], ◌≡◌, ◌*◌, ◌+◌, ◌≤◌, length};
 ghost use Rattle.ground.specs.Judge.{judge_cells, judge_lists, judge_marks, judge_record, judge_sized};
 ghost use Rattle.ground.specs.Judge.{number_of, place_of, refusal_number, refusal_place};

@@ -1,5 +1,7 @@
 // The network of a tile over as many neighbours as a caller counts (document 02, W-203) and in the manner that it names (W-205): the count
 // and then the manner judged before all else, and the calls from lists to lists and from record to record. specs/Counted.antt says what they answer and leave.
+#![tactic(auto)]
+
 ghost use Rattle.std.specs.Prelude.{◌≡◌, ◌≤◌};
 ghost use Rattle.ground.specs.Record.{ground_of_lists};
 ghost use Rattle.network_by.specs.Calls.{ListsCounted, network_answer_to, RecordCounted};

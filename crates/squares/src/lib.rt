@@ -1,5 +1,7 @@
 // Enough crossings of a tile as pairs, ascending (rule 3): those between two labels, but for such as are the greatest of a ring within a
 // square of four cells, which are never chosen.
+#![tactic(auto)]
+
 ghost use Rattle.std.specs.Prelude.{cond, List, ◌++◌, ◌≡◌, max, ℕ, ◌%◌, ◌*◌, ◌+◌, ◌-◌, ◌/◌, ◌<◌, ◌≤◌, eqb, length};
 ghost use Rattle.grid.specs.Window.{Grid};
 ghost use Rattle.lists.specs.Lists.{at, filled};

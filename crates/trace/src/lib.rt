@@ -2,6 +2,8 @@
 //
 // The work is bounded by the list and not by the budget: at most three moves for each entry. A walk of as many moves as the list has
 // entries is on a ring for good, and what is left of the budget counts modulo the ring's length.
+#![tactic(auto)]
+
 ghost use Rattle.std.specs.Prelude.{◌≡◌, ◌<◌, ◌≤◌, length};
 ghost use Rattle.lists.specs.Lists.{at, repeat};
 ghost use Rattle.rules.specs.Trace.{trace_from, trace as Rules·trace};
