@@ -18,7 +18,7 @@ use rules::is_outlet;
 use std::num::wrapping_sub_u16;
 
 // The bits of four places of a window: those of the sides, or those of the corners.
-#[derive(Drop)]
+#[derive(Clone, Copy)]
 struct Bits(u32, u32, u32, u32);
 
 // The key of cell d at the place of this bit.

@@ -26,7 +26,7 @@ use lists::least;
 use network::lift_heights;
 
 // The answer to a call that lists lakes; `lakes_number` and `lakes_place` of specs/LakeCall.antt give the numbers.
-#[derive(Drop)]
+#[derive(Clone, Copy)]
 pub enum LakesAnswer {
     // So many lakes are listed.
     Listed(u16),

@@ -24,7 +24,7 @@ use measuring::NO_PLACE;
 use nesting::list_lake;
 
 // What is found on a tile: how many lakes, or the least cell of the first outermost lake that is deeper than 64.
-#[derive(Drop)]
+#[derive(Clone, Copy)]
 pub enum Found {
     Lakes(u16),
     TooDeep(Cell),

@@ -16,7 +16,7 @@ use network_record::record_over;
 use rules::Manner;
 
 // What a count and a manner ask for.
-#[derive(Drop)]
+#[derive(Clone, Copy)]
 pub enum Asked {
     // 4 or 8 neighbours, carved or as a sheet.
     For(Neighbours, Manner),
@@ -27,7 +27,7 @@ pub enum Asked {
 }
 
 // The answer to a call with a count and a manner; `network_number` and `network_place` of specs/Counted.antt give the numbers.
-#[derive(Drop)]
+#[derive(Clone, Copy)]
 pub enum NetworkAnswer {
     // 11: the count is neither 4 nor 8.
     BadCount,

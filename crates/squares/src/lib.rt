@@ -15,7 +15,7 @@ use lists::{least_u32, most_u32};
 
 // One of a cell's pairs: with the cell `on` places further. It is pair `here` of the square that begins `first` places before the cell,
 // and pair `there` of the one that begins `second` places before. A cell's flag has its `bit` if it is kept.
-#[derive(Drop)]
+#[derive(Clone, Copy)]
 struct Side {
     on: usize,
     first: usize,

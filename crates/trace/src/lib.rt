@@ -13,7 +13,7 @@ ghost use Rattle.trace.specs.Ring.{OnRing, ring_length, Stays};
 use kinds::Cell;
 
 // What a trace comes to. specs/Answer.antt gives document 01's number and values for each case.
-#[derive(Drop)]
+#[derive(Clone, Copy)]
 pub enum TraceAnswer {
     // The outlet, and the steps taken.
     Outlet(Cell, u32),

@@ -59,7 +59,7 @@ const ABOVE_RIGHT: u32 = 224;
 const MARGIN: usize = 65;
 
 // A stack's entry: a cell, its receiver and the mask of the cells that receive to it, in one number.
-#[derive(Drop)]
+#[derive(Clone, Copy)]
 struct Entry(u32);
 
 impl Entry {
