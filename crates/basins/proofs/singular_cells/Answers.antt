@@ -33,7 +33,7 @@ returns-then-not-moved c =
     let j = c.jump-moved in
     λ L F. j.ensures.0 ∙ settled_still c.args.n c.args.entries.now c.loop-steps.entries c.loop-steps.steps F.room
     c.loop-steps.invariant L F
-    (sym j.ensures.1 ∙ not-true _ c.if-not-moved.true)
+    (sym j.ensures.1 ∙ c.if-not-moved.true)
 
 pub loop-steps-preserved : goal.loop-steps-preserved
 loop-steps-preserved c =

@@ -18,8 +18,8 @@ returns-in-Four c =
     let l = c.wrapping_sub_u16-2 in
     let u = c.wrapping_sub_u16 in
     λ n d G on P. rw (c.if_weight-side.ensures, c.if_weight-right.ensures, c.if_weight-left.ensures, c.if_weight-up.ensures)
-    (four_led a.w a.c.0 a.k u.result l.result (record { small = search rules; back = u.ensures })
-    (record { small = search rules; back = l.ensures }) n d G.few
+    (four_led a.w a.c.0 a.k u.result l.result (record { small = search rules; back = u.ensures.value })
+    (record { small = search rules; back = l.ensures.value }) n d G.few
     (subst (λ (N : Neighbours). Placed N a.w n a.c.0 d a.k) c.in-Four.is P))
 
 pub returns-in-Eight : goal.returns-in-Eight
@@ -27,8 +27,8 @@ returns-in-Eight c =
     let a = c.args in
     let l = c.wrapping_sub_u16-2 in
     let u = c.wrapping_sub_u16 in
-    λ n d G on P. eight_led a.w a.c.0 a.k u.result l.result (record { small = search rules; back = u.ensures })
-    (record { small = search rules; back = l.ensures })
+    λ n d G on P. eight_led a.w a.c.0 a.k u.result l.result (record { small = search rules; back = u.ensures.value })
+    (record { small = search rules; back = l.ensures.value })
     (rw (c.if_weight-side.ensures, c.if_weight-right.ensures, c.if_weight-left.ensures, c.if_weight-up.ensures)
     at c.led_to_corner.ensures) n d G.few
     (subst (λ (N : Neighbours). Placed N a.w n a.c.0 d a.k) c.in-Eight.is P)

@@ -11,4 +11,4 @@ returns c =
     let ur = c.wrapping_sub_u16-2 in
     rw (c.if_weight.ensures, c.if_weight-lower_left.ensures, c.if_weight-upper_right.ensures, c.if_weight-upper_left.ensures)
     (corners-led a.w a.c.0 a.k a.side.0 ul.result ur.result c.requires.0
-    (record { small = search rules; back = ul.ensures }) (record { small = search rules; back = ur.ensures }))
+    (record { small = search rules; back = ul.ensures.value }) (record { small = search rules; back = ur.ensures.value }))
