@@ -33,7 +33,7 @@ returns-in_default c =
     let n = length r in
     let e : n + (c.args.budget - n) ≡ c.args.budget = omega arith in
     w.ensures
-    ∙ sym (trace_from_ended r n (c.args.budget - n) 0 c.args.start.0 (λ d t q. not_stopped w.result c.in_default.keys2 d t (w.ensures ∙ q)))
+    ∙ sym (trace_from_ended r n (c.args.budget - n) 0 c.args.start.0 (λ d t q. not_stopped w.result c.before.in_default.in_default-own.keys2 d t (w.ensures ∙ q)))
     ∙ ap (λ (k : ℕ). trace_from r k 0 c.args.start.0) e
 
 pub cell_on_ring-requires : goal.cell_on_ring-requires
