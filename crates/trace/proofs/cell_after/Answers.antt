@@ -1,13 +1,13 @@
 -- `trace::cell_after` meets its contract: after each turn the cell is one move further.
 -- Assumes nothing.
 use mathlib.Core.Path.{ap, sym, ◌∙◌, ◌≡◌}
-use Prim.Native.Nat.{◌-◌, ◌<◌, ◌≤◌}
+use Prim.Native.Nat.{◌<◌}
 use native.Mathlib.Numerals.{add-one}
 use native.Mathlib.Omega.{arith}
 use lib.ListN.{length}
 use borrow.Author.Rules.{rules}
 use Rattle.lists.proofs.Repeat.{repeat-last}
-use Rattle.lists.specs.Lists.{at, repeat}
+use Rattle.lists.specs.Lists.{at}
 use Rattle.trace.proofs.cell_after.Goals as goal
 use Rattle.trace.proofs.cell_after.Goals.{In-loop}
 

@@ -1,12 +1,7 @@
 -- `trace::cell_after` meets its contract: after each turn the cell is one move further.
 -- Assumes nothing.
-use mathlib.Core.Path.{ap, sym, ◌∙◌, ◌≡◌}
-use Prim.Native.Nat.{◌-◌, ◌<◌, ◌≤◌}
-use native.Mathlib.Numerals.{add-one}
-use native.Mathlib.Omega.{arith}
-use lib.ListN.{length}
-use borrow.Author.Rules.{rules}
-use Rattle.lists.proofs.Repeat.{repeat-last}
+use mathlib.Core.Path.{◌≡◌}
+use Prim.Native.Nat.{◌-◌, ◌≤◌}
 use Rattle.lists.specs.Lists.{at, repeat}
 use Rattle.trace.proofs.cell_after.Given as goal
 

@@ -4,7 +4,6 @@ use mathlib.Core.Path.{ap, sym, ◌∙◌, ◌≡◌}
 use Prim.Native.Nat.{ℕ, ◌%◌, ◌<◌}
 use native.Mathlib.Nat.{mod-lt}
 use native.Mathlib.Omega.{arith}
-use borrow.Author.Rules.{rules}
 use Rattle.lists.specs.Lists.{at, repeat}
 use Rattle.trace.proofs.Ring.{repeat_modulo, round_trip}
 use Rattle.trace.specs.Ring.{ring_length}

@@ -2,11 +2,10 @@
 -- here with the steps that are left, which are the measure.
 -- Assumes nothing.
 use mathlib.Core.Path.{ap, sym, ◌∙◌, ◌≡◌}
-use Prim.Native.Nat.{suc, ℕ, ◌+◌, ◌-◌, ◌<◌, ◌≤◌}
+use Prim.Native.Nat.{suc, ℕ, ◌+◌, ◌-◌, ◌<◌}
 use native.Mathlib.Nat.{sub-zero}
 use native.Mathlib.Numerals.{add-one}
 use native.Mathlib.Omega.{arith}
-use lib.ListN.{length}
 use borrow.Author.Rules.{rules}
 use Rattle.lists.specs.Lists.{at}
 use Rattle.rules.proofs.TraceSteps.{Onward, trace_from_outlet, trace_from_outside, trace_from_spent, trace_from_step}
