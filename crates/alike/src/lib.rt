@@ -1,5 +1,7 @@
 // Masks of neighbours: which places of each cell's window have one, and of these the ones with the cell's own label. No step branches on a
 // label, so that the compiler can take many cells at once.
+#![tactic(auto)]
+
 ghost use Rattle.std.specs.Prelude.{cond, ◌≡◌, ◌%◌, ◌*◌, ◌+◌, ◌-◌, ◌/◌, ◌<◌, ◌≤◌, length};
 ghost use Rattle.alike.specs.Columns.{column_by, in_column};
 ghost use Rattle.alike.specs.Narrowed.{beyond, InMargin, like_at, narrowed, narrowed_by};

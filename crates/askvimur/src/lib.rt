@@ -1,5 +1,7 @@
 // The console's call: from a ground record to its network record, with document 01's 4 neighbours, carved
 // (include/askvimur.h).
+#![tactic(auto)]
+
 ghost use Rattle.askvimur.specs.Answer.{Called, CalledFromC};
 
 use grid::Neighbours;

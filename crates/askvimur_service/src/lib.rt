@@ -1,5 +1,7 @@
 // The calls of the service and of designers' tools, for C (include/askvimur_service.h): the lakes of a ground record (W-202), and its network
 // over 4 or 8 neighbours (W-203), carved or as a sheet (W-205).
+#![tactic(auto)]
+
 ghost use Rattle.std.specs.Prelude.{List, ◌≡◌, ℕ, ◌*◌, ◌+◌};
 ghost use Rattle.askvimur_service.specs.LakesCall.{LakesCalled, LakesCalledFromC, lakes_answer_to, lakes_room, room_left};
 ghost use Rattle.ground.specs.Record.{ground_in};

@@ -1,5 +1,7 @@
 // Rule 2, basins: the singular cell that each cell's first receivers lead to, the number of each cell's basin, and its label.
 // Entries jump: each cell's entry is replaced by its entry's entry, until all entries lead far enough or none moves.
+#![tactic(auto)]
+
 ghost use Rattle.std.specs.Prelude.{◌≡◌, ◌+◌, ◌<◌, ◌≤◌, eqb, length};
 ghost use Rattle.basins.specs.Jumps.{any_moved, FirstReceivers, jumped, moved_on, one_if, singular_below, Within};
 ghost use Rattle.basins.specs.Labels.{label_by};

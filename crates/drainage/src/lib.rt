@@ -1,5 +1,7 @@
 // Rule 9, drainage: every cell starts with its own water, and going backwards through the order each gives all it has to its
 // receiver, so that a cell has all its water before it gives. The water is a list, or a section of a record, read where it stands.
+#![tactic(auto)]
+
 ghost use Rattle.std.specs.Prelude.{List, ◌≡◌, ℕ, ◌*◌, ◌+◌, ◌<◌, ◌≤◌, length};
 ghost use Rattle.drainage.specs.Giving.{Drained, given, Ordered};
 ghost use Rattle.lists.specs.Lists.{at, filled};

@@ -1,5 +1,7 @@
 // Rule 1 by least keys: for each cell where its first receiver stands, as a weight, which is the bit of that place of its window, and 0
 // for outlets and pits; first receivers from weights. No step branches on heights, so that the compiler can take many cells at once.
+#![tactic(auto)]
+
 ghost use Rattle.std.specs.Prelude.{◌≡◌, ℕ, ◌+◌, ◌*◌, ◌<◌, ◌≤◌, min, List, length, if◌then◌else◌, nat_eq};
 ghost use Rattle.first_receivers.specs.Weights as S;
 ghost use Rattle.grid.specs.Masks.{mask_of};
@@ -16,7 +18,7 @@ use rules::is_outlet;
 use std::num::wrapping_sub_u16;
 
 // The bits of four places of a window: those of the sides, or those of the corners.
-#[derive(Drop)]
+#[derive(Clone, Copy)]
 struct Bits(u32, u32, u32, u32);
 
 // The key of cell d at the place of this bit.

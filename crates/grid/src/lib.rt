@@ -1,10 +1,12 @@
 // Rows, columns and neighbours: specs/Window.antt says what a neighbour is, specs/Neighbours.antt which neighbours a caller may ask for and
 // which of two ways down is steeper, specs/Masks.antt what a mask of neighbours is. The functions find the rows beside a row.
+#![tactic(auto)]
+
 ghost use Rattle.std.specs.Prelude.{◌≡◌, ◌<◌, ◌≤◌};
 ghost use Rattle.grid.specs.Sides.{above, below};
 
 // The neighbours of a cell (W-203); `places_by` and `count_by` of specs/Neighbours.antt give their places and their number.
-#[derive(Drop)]
+#[derive(Clone, Copy)]
 pub enum Neighbours {
     // The cells that share a side with it.
     Four,

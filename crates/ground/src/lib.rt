@@ -1,5 +1,7 @@
 // Grounds judged (document 01, "Ground" and "Numbers given back"): a record or lists are accepted, or refused with the first row of
 // the table that holds, in the table's order. specs/Record.antt has the format and specs/Judge.antt the judgement.
+#![tactic(auto)]
+
 ghost use Rattle.std.specs.Prelude.{[], ◌≡◌, ◌*◌, ◌+◌, ◌≤◌, length};
 ghost use Rattle.ground.specs.Judge.{judge_cells, judge_lists, judge_marks, judge_record, judge_sized};
 ghost use Rattle.ground.specs.Judge.{number_of, place_of, refusal_number, refusal_place};
@@ -14,7 +16,7 @@ mod limits; // limits.rt: what is judged without a look at the cells
 mod search; // search.rt: the first bad height and the first bad mark, where something is wrong
 
 // Why a ground is refused; `number_of` and `place_of` of specs/Judge.antt give the numbers of document 01.
-#[derive(Drop)]
+#[derive(Clone, Copy)]
 pub enum Refusal {
     // Width or height is 0 or above 64.
     BadSize,
@@ -33,7 +35,7 @@ pub enum Refusal {
 }
 
 // The answer to a ground.
-#[derive(Drop)]
+#[derive(Clone, Copy)]
 pub enum Judged {
     // Width and height.
     Accepted(u16, u16),
@@ -42,7 +44,7 @@ pub enum Judged {
 }
 
 // The outputs of a call: `len` entries or bytes, of which each cell takes `each`, and `fixed` are taken besides.
-#[derive(Drop)]
+#[derive(Clone, Copy)]
 pub struct Room {
     pub each: u16,
     pub fixed: u16,

@@ -6,7 +6,7 @@ ghost use Rattle.ground.specs.Judge.{bad_height};
 ghost use Rattle.ground.specs.Sought.{bad_in_bytes, bytes_each};
 
 // What is looked for in bytes.
-#[derive(Drop)]
+#[derive(Clone, Copy)]
 pub enum Sought {
     // A height out of range; each cell has four bytes.
     Height,

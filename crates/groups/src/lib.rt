@@ -3,6 +3,8 @@
 // A list of groups is work space: it has an entry for each basin or cell, and each entry names one no greater. Following the entries
 // ends at the root of the group. The contracts say the roots, which are all that any function reads from such a list; how an
 // entry leads to its root is left open, so that ways may be shortened.
+#![tactic(auto)]
+
 ghost use Rattle.std.specs.Prelude.{◌≡◌, ◌<◌, ◌≤◌, length};
 ghost use Rattle.groups.specs.Groups.{Down, Joined, Root, root_of, SameGroups, two_groups};
 ghost use Rattle.lists.specs.Lists.{upto};

@@ -1,5 +1,7 @@
 // Lakes written as bytes, 16 for each (specs/LakeBytes.antt), from the rows that they were listed into.
 // These are leaves: callers show that there is room, and that the lakes of the rows fit.
+#![tactic(auto)]
+
 ghost use Rattle.std.specs.Prelude.{◌≡◌, ◌*◌, ◌+◌, ◌<◌, ◌≤◌, length};
 ghost use Rattle.lake_bytes.specs.LakeBytes.{lake_bytes, lakes_bytes};
 ghost use Rattle.lake_rows.specs.Reading.{level_in, read_lake, read_lakes};

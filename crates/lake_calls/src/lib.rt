@@ -1,5 +1,7 @@
 // The lakes of a ground, for calls (document 02, W-202): the answer with its numbers, and the call from lists to lists.
 // The lakes are found as rows in work space. The lent lists are written only after 10 and 3 are judged: specs/LakeCall.antt.
+#![tactic(auto)]
+
 ghost use Rattle.std.specs.Prelude.{List, ◌≡◌, ℕ, ◌*◌, ◌<◌, ◌≤◌, length};
 ghost use Rattle.ground.specs.Good.{Good};
 ghost use Rattle.ground.specs.Record.{ground_of_lists};
@@ -24,7 +26,7 @@ use lists::least;
 use network::lift_heights;
 
 // The answer to a call that lists lakes; `lakes_number` and `lakes_place` of specs/LakeCall.antt give the numbers.
-#[derive(Drop)]
+#[derive(Clone, Copy)]
 pub enum LakesAnswer {
     // So many lakes are listed.
     Listed(u16),

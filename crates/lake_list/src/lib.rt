@@ -2,6 +2,8 @@
 // The cells of a lake are a part of a list, ascending. A call gathers them into the same part of a second list, group by group of the
 // cells below the lake's split, and calls itself with the part of each group, the two lists in each other's role: so the number of
 // cells falls. Every lake is listed after the lakes inside it, two numbers for each.
+#![tactic(auto)]
+
 ghost use Rattle.std.specs.Prelude.{List, ◌≡◌, ℕ, ◌*◌, ◌+◌, ◌≤◌, length};
 ghost use Rattle.lake_list.specs.Listing.{NotedLakes, Room};
 ghost use Rattle.lake_list.specs.Outermost.{FoundAmong, NotedWet};
@@ -22,7 +24,7 @@ use measuring::NO_PLACE;
 use nesting::list_lake;
 
 // What is found on a tile: how many lakes, or the least cell of the first outermost lake that is deeper than 64.
-#[derive(Drop)]
+#[derive(Clone, Copy)]
 pub enum Found {
     Lakes(u16),
     TooDeep(Cell),

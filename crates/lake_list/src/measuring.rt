@@ -12,7 +12,7 @@ use lists::most_u32;
 pub const NO_PLACE: usize = 4097;
 
 // A lake's two numbers: level, number of cells and least cell in one, and the volume.
-#[derive(Drop)]
+#[derive(Clone, Copy)]
 pub struct Row {
     pub head: u64,
     pub volume: u64,

@@ -1,5 +1,7 @@
 // Notes for the lakes (W-202): one pass over all pairs of neighbouring wet cells, by ascending height of the higher of the two. It leaves
 // flags, from which every lake's split is read, and a forest, from which the groups below any height are read.
+#![tactic(auto)]
+
 ghost use Rattle.std.specs.Prelude.{List, ℕ, ◌≤◌, length};
 ghost use Rattle.lake_notes.specs.Noting.{Levelled, Noted};
 ghost use Rattle.rules.specs.Land.{rule4};

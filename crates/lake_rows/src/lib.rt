@@ -1,4 +1,6 @@
 // A lake's numbers, read out of the list of rows that lakes are listed into: specs/Reading.antt says where each stands.
+#![tactic(auto)]
+
 ghost use Rattle.std.specs.Prelude.{◌≡◌, ◌*◌, ◌+◌, ◌<◌, length};
 ghost use Rattle.lake_rows.specs.Reading.{count_in, least_in, level_in, volume_in};
 

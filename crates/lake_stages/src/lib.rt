@@ -1,4 +1,6 @@
 // The lakes of a tile: its levels by the stages of the network, and then its lakes, as rows in a lent list.
+#![tactic(auto)]
+
 ghost use Rattle.std.specs.Prelude.{◌≡◌, ◌*◌, ◌≤◌, length};
 ghost use Rattle.ground.specs.Record.{ground_in};
 ghost use Rattle.lake_list.specs.Rows.{FoundIn};

@@ -1,5 +1,7 @@
 // The text that the program `lakes` prints (document 02, W-202), as bytes in a lent list: specs/LakeText.antt says which.
 // These are leaves: callers show that there is room.
+#![tactic(auto)]
+
 ghost use Rattle.std.specs.Prelude.{◌*◌, ◌+◌, ◌<◌, ◌≤◌, length};
 ghost use Rattle.lake_rows.specs.Reading.{read_lake, read_lakes};
 ghost use Rattle.lake_rules.specs.Fits.{LakesFit};

@@ -1,6 +1,8 @@
 // Rule 6's links as masks: first those with first receivers, or wherever cells lead to, from weights by flat passes, two for each way and
 // back; no column is needed, as no weight leads over a row's end. Then those of pairs: a chosen pass is no link with a first receiver, so
 // its two bits are added with no test.
+#![tactic(auto)]
+
 ghost use Rattle.std.specs.Prelude.{Bool, cond, ◌≡◌, ℕ, ◌+◌, ◌<◌, ◌≤◌, eqb, length};
 ghost use Rattle.links.specs.Leads.{Added, added_both, added_corners, added_to, Fits, Leading, LeadsLinked};
 ghost use Rattle.links.specs.PairLinks.{Addable, added_in, both_added, greater_bit, lesser_bit, PairsLinked};

@@ -22,7 +22,7 @@ module _ {A : Type 0} (p : A → Bool) where
       go true q r ih = (x, in_head refl, q)
       go false q r ih = let w = ih r in (w.0, in_Tail w.1, w.2)
 
-  pub any_holds : {l : List A} {x : A} → x ∈ l → p x ≡ true → any p l ≡ true
+  pub any_holds : {x : A} {l : List A} → x ∈ l → p x ≡ true → any p l ≡ true
   any_holds (in_head {xs = ys} e) t = rw (sym (ap p e) ∙ t)
   any_holds (in_Tail {x = y} m) t = or_right (p y) _ (any_holds m t)
 

@@ -27,7 +27,7 @@ module _ {A B : Type 0} where
       go (inl i) ih = (x, in_head refl, i)
       go (inr i) ih = let r = ih i in (r.0, in_Tail r.1, r.2)
 
-  pub flat_holds : (f : A → List B) {l : List A} {a : A} {b : B} → a ∈ l → b ∈ f a → b ∈ flat f l
+  pub flat_holds : (f : A → List B) {a : A} {b : B} {l : List A} → a ∈ l → b ∈ f a → b ∈ flat f l
   flat_holds f {b = z} (in_head {x = x} {xs = xs} e) m = in_left (flat f xs) (subst (λ (w : A). z ∈ f w) e m)
   flat_holds f (in_Tail {x = x} i) m = in_right (f x) (flat_holds f i m)
 

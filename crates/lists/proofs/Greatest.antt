@@ -45,7 +45,7 @@ greatest_mem (x ∷ xs) = go (lt_or_ge x (greatest xs)) (greatest_mem xs)
     go (inr l) m = inr (in_head (let e : max x (greatest xs) ≡ x = omega arith in e))
 
 -- and no member is greater
-pub greatest-most : (l : List ℕ) {x : ℕ} → x ∈ l → x ≤ greatest l
+pub greatest-most : {x : ℕ} (l : List ℕ) → x ∈ l → x ≤ greatest l
 greatest-most l (in_head {x = y} {xs = ys} e) = let f = e in omega arith
 greatest-most l (in_Tail {x = y} {xs = ys} m) = let f : _ ≤ greatest ys = greatest-most ys m in omega arith
 

@@ -33,7 +33,7 @@ module _ {A : Type 0} where
       go true e m ih = found e ih (in-cases m)
       go false e m ih = (in_Tail (ih m).0, (ih m).1)
 
-  pub keep_holds : (p : A → Bool) {l : List A} {x : A} → x ∈ l → p x ≡ true → x ∈ keep p l
+  pub keep_holds : (p : A → Bool) {x : A} {l : List A} → x ∈ l → p x ≡ true → x ∈ keep p l
   keep_holds p (in_head {x = y} {xs = ys} q) e = rw (sym (ap p q) ∙ e) (in_head q)
   keep_holds p {x = a} (in_Tail {x = y} {xs = ys} m) e = go (p y) (keep_holds p m e)
     where
@@ -86,7 +86,7 @@ module _ {A : Type 0} where
       go true h = omega arith
       go false h = omega arith
 
-  pub keep-length-drop : (p : A → Bool) {l : List A} {x : A} → x ∈ l → p x ≡ false → length (keep p l) < length l
+  pub keep-length-drop : (p : A → Bool) {x : A} {l : List A} → x ∈ l → p x ≡ false → length (keep p l) < length l
   keep-length-drop p (in_head {x = y} {xs = ys} e) n = rw (sym (ap p e) ∙ n) (omega (arith, keep-length p ys))
   keep-length-drop p (in_Tail {x = y} {xs = ys} m) n = go (p y) (keep-length-drop p m n)
     where

@@ -24,7 +24,7 @@ module _ {A B : Type 0} where
       go (inl e) ih = (x, in_head refl, e)
       go (inr i) ih = let r = ih i in (r.0, in_Tail r.1, r.2)
 
-  pub map_holds : (f : A → B) {l : List A} {a : A} → a ∈ l → f a ∈ map f l
+  pub map_holds : (f : A → B) {a : A} {l : List A} → a ∈ l → f a ∈ map f l
   map_holds f (in_head e) = in_head (ap f e)
   map_holds f (in_Tail m) = in_Tail (map_holds f m)
 

@@ -8,7 +8,7 @@ use Rattle.lists.specs.Lists.{flat, Run, ◌∈◌}
 
 module _ {A B : Type 0} where
   -- each part is a run of the whole
-  pub run_flat : (f : A → List B) {l : List A} {a : A} → a ∈ l → Run (f a) (flat f l)
+  pub run_flat : (f : A → List B) {a : A} {l : List A} → a ∈ l → Run (f a) (flat f l)
   run_flat f (in_head {x = x} {xs = xs} e) = record { front = []; rest = flat f xs; is = ap (λ (z : A). f z ++ flat f xs) (sym e) }
   run_flat f {a = a} (in_Tail {x = x} {xs = xs} m) =
       let r : Run (f a) (flat f xs) = run_flat f m in

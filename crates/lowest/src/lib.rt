@@ -1,6 +1,8 @@
 // The neighbour of lowest level, least number first (document 02, W-205): for each cell where it stands, as a weight, which is the bit of that
 // place of its window, and 0 for outlets and where no neighbour is lower. One flat loop by least keys over levels with a margin: nothing
 // asks for a row's end and no step branches on levels, so that the compiler can take many cells at once.
+#![tactic(auto)]
+
 ghost use Rattle.std.specs.Prelude.{cond, ◌≡◌, min, ◌*◌, ◌+◌, ◌-◌, ◌<◌, ◌≤◌, length};
 ghost use Rattle.first_receivers.specs.Weights.{first_is};
 ghost use Rattle.grid.specs.Masks.{mask_of};

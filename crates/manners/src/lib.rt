@@ -1,5 +1,7 @@
 // Rules 6 to 8 and 10 in the manner asked for (W-205): the walk along the links of carving, and for a sheet a second one along its own
 // links, which the levels of the first give.
+#![tactic(auto)]
+
 ghost use Rattle.std.specs.Prelude.{◌≡◌, length, take};
 ghost use Rattle.rules.specs.Carving as Carving;
 ghost use Rattle.rules.specs.Land.{rule_by};

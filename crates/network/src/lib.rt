@@ -1,5 +1,7 @@
 // The network of a tile, from lists to lists: judged, worked out by the stages of the rules, and written into lent lists.
 // Heights are lifted on the way in and levels dropped on the way out. specs/Call.antt says what is left in each list.
+#![tactic(auto)]
+
 ghost use Rattle.std.specs.Prelude.{map, ◌≡◌, ◌*◌, ◌≤◌, length, take};
 ghost use Rattle.ground.specs.Good.{Good};
 ghost use Rattle.ground.specs.Record.{ground_of_lists};

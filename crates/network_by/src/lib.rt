@@ -1,5 +1,7 @@
 // The network of a tile over as many neighbours as a caller counts (document 02, W-203) and in the manner that it names (W-205): the count
 // and then the manner judged before all else, and the calls from lists to lists and from record to record. specs/Counted.antt says what they answer and leave.
+#![tactic(auto)]
+
 ghost use Rattle.std.specs.Prelude.{◌≡◌, ◌≤◌};
 ghost use Rattle.ground.specs.Record.{ground_of_lists};
 ghost use Rattle.network_by.specs.Calls.{ListsCounted, network_answer_to, RecordCounted};
@@ -14,7 +16,7 @@ use network_record::record_over;
 use rules::Manner;
 
 // What a count and a manner ask for.
-#[derive(Drop)]
+#[derive(Clone, Copy)]
 pub enum Asked {
     // 4 or 8 neighbours, carved or as a sheet.
     For(Neighbours, Manner),
@@ -25,7 +27,7 @@ pub enum Asked {
 }
 
 // The answer to a call with a count and a manner; `network_number` and `network_place` of specs/Counted.antt give the numbers.
-#[derive(Drop)]
+#[derive(Clone, Copy)]
 pub enum NetworkAnswer {
     // 11: the count is neither 4 nor 8.
     BadCount,

@@ -1,5 +1,7 @@
 // The network record (document 01, "Records"): the six lists of a network, each written into its own stretch of the lent record,
 // and then the trailer. specs/NetworkRecord.antt has the format.
+#![tactic(auto)]
+
 ghost use Rattle.std.specs.Prelude.{map, ◌≡◌, ◌*◌, ◌+◌, ◌≤◌, length, take};
 ghost use Rattle.heights.specs.Bits.{dropped_bits, height_section};
 ghost use Rattle.lists.specs.Lists.{overwrite, stored};

@@ -1,5 +1,7 @@
 // Impostors of the network call. `draw` promises what `network::network` promises, and hands on to it. Each must-fail edit puts an
 // impostor in its place: each impostor is safe and keeps a promise of its own, and the promise of `draw` shuts it out.
+#![tactic(auto)]
+
 ghost use Rattle.ground.specs.Record.{ground_of_lists};
 ghost use Rattle.network.specs.Call.{Outcome};
 ghost use Rattle.rules.specs.SixLists.{six_lists};

@@ -1,5 +1,7 @@
 // The record call over four neighbours or eight, carved or as a sheet: from a ground record to its network record, and its answer as one
 // number. The calls for C rest on it; it has no symbol of its own.
+#![tactic(auto)]
+
 ghost use Rattle.std.specs.Prelude.{◌≡◌, ◌*◌, ◌+◌, ◌≤◌, length, take};
 ghost use Rattle.ground.specs.Judge.{number_of, place_of};
 ghost use Rattle.ground.specs.Record.{ground_in};

@@ -1,6 +1,8 @@
 // A pair of neighbours as one number of 16 bits: 4 times the lesser cell, and at which of the places after it the greater one stands: 0 to
 // the right, 1 below to the left, 2 below, 3 below to the right. In ascending order pairs go by the lesser cell, then the greater, as
 // crossings of one height do (rule 3).
+#![tactic(auto)]
+
 ghost use Rattle.std.specs.Prelude.{◌≡◌, ◌%◌, ◌*◌, ◌+◌, ◌/◌, ◌<◌, ◌≤◌, length};
 ghost use Rattle.pairs.specs.Pairs.{greater_of, lesser_of, pair_height, place_in};
 

@@ -1,5 +1,7 @@
 // Rules 3 and 4: from a tile and its labels to the pairs of its chosen passes. Of pairs that are enough crossings in order, one is a chosen
 // pass where it joins two groups of labels. All outlet basins have one label, so they count as joined from the start.
+#![tactic(auto)]
+
 ghost use Rattle.std.specs.Prelude.{List, ◌≡◌, ℕ, ◌<◌, ◌≤◌, length};
 ghost use Rattle.groups.specs.Groups.{Down, Joined, two_groups};
 ghost use Rattle.lists.specs.Lists.{at, upto};

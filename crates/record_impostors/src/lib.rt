@@ -1,5 +1,7 @@
 // Impostors of the reader of ground records. `read` promises what `records::read_record` promises, and hands on to it. Each must-fail
 // edit puts an impostor in its place: each impostor is safe and keeps a promise of its own, and the promise of `read` shuts it out.
+#![tactic(auto)]
+
 ghost use Rattle.records.specs.Calls.{Read, three_lists};
 
 use ground::Judged;

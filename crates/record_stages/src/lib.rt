@@ -1,6 +1,8 @@
 // The network of an accepted ground record, in lists: what the record call writes out and what drain prints. Two calls, one after
 // the other, so that no list that only the second fills takes space while the first works.
 // Heights are lifted as they are read, and marks and water are looked at where they stand in the record.
+#![tactic(auto)]
+
 ghost use Rattle.std.specs.Prelude.{◌≡◌, ◌*◌, ◌≤◌, length};
 ghost use Rattle.lists.specs.Lists.{filled};
 ghost use Rattle.record_stages.specs.Lifted.{InRangeAt, lifted_at};

@@ -1,5 +1,7 @@
 // What the programs that read one ground record have in common: the answer to an input, and the text of a refusal.
 // specs/RecordText.antt says what such a program prints for every input, over the text that it has for a ground.
+#![tactic(auto)]
+
 ghost use Rattle.std.specs.Prelude.{◌≡◌, ◌≤◌, length};
 ghost use Rattle.ground.specs.Judge.{refusal_number, refusal_place};
 ghost use Rattle.record_text.specs.RecordText.{judge_input};

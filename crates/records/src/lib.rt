@@ -1,5 +1,7 @@
 // Ground records read into lists and written from them (document 01, "Records"). Each call judges its input first, in the order of
 // document 01's table: a refusal changes nothing, and what is past the last entry or byte filled stays as it was.
+#![tactic(auto)]
+
 ghost use Rattle.std.specs.Prelude.{◌≡◌, ◌*◌, ◌+◌, ◌≤◌, length};
 ghost use Rattle.lists.specs.Lists.{overwrite, stored, stretch};
 ghost use Rattle.sections.specs.LittleEndian.{numbers_at};

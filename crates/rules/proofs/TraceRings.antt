@@ -15,7 +15,7 @@ use Rattle.rules.specs.Trace.{RunsInRing, stopped, trace}
 module _ (r : List ℕ) (c : ℕ) (R : RunsInRing r c) where
   -- an outlet leads to itself only, so none is met before a cell that is no outlet is met again
   ring_goes : (k : ℕ) → k < R.again → Onward r (repeat k (at r) c)
-  ring_goes k h = record { inside = R.on_List k h; moves = λ e. R.no_outlet (ap (at r) (is_outlet_lem e) ∙ e ∙ sym (is_outlet_lem e)) }
+  ring_goes k h = record { inside = R.on_list k h; moves = λ e. R.no_outlet (ap (at r) (is_outlet_lem e) ∙ e ∙ sym (is_outlet_lem e)) }
     where
       is_outlet_lem : at r (repeat k (at r) c) ≡ repeat k (at r) c → repeat R.first (at r) c ≡ repeat k (at r) c
       is_outlet_lem e =

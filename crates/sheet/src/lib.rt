@@ -1,5 +1,7 @@
 // Sheet flow (W-205): the links of its receivers, from levels. A cell with a lower neighbour leads to the lowest; any other takes a level step to
 // the first neighbour of its level whose count is one less. Flat passes over lists with a margin, and one spreading of counts.
+#![tactic(auto)]
+
 ghost use Rattle.std.specs.Prelude.{◌≡◌, ℕ, ◌+◌, ◌<◌, ◌≤◌, not, ◌&&◌, ◌||◌, List, length, if◌then◌else◌, ◌==◌, nat_eq};
 ghost use Rattle.first_receivers.specs.Weights.{first_is};
 ghost use Rattle.grid.specs.Masks.{leads, mask_of};

@@ -1,5 +1,7 @@
 // The fewest steps from each cell to a marked one, through neighbours that a mask names: cells are taken out of a queue in the order in
 // which they entered it, and each offers a count one more than its own to the places around it. No branch depends on the ground.
+#![tactic(auto)]
+
 ghost use Rattle.std.specs.Prelude.{Bool, cond, not, ◌&&◌, ◌≡◌, ℕ, ◌+◌, ◌<◌, ◌≤◌, eqb, length};
 ghost use Rattle.lists.specs.Stores.{Packs};
 ghost use Rattle.spread.specs.Spread.{Spreadable, SpreadOut};

@@ -1,5 +1,7 @@
 // Enough crossings of a tile as pairs, ascending (rule 3): those between two labels, but for such as are the greatest of a ring within a
 // square of four cells, which are never chosen.
+#![tactic(auto)]
+
 ghost use Rattle.std.specs.Prelude.{cond, List, ◌++◌, ◌≡◌, max, ℕ, ◌%◌, ◌*◌, ◌+◌, ◌-◌, ◌/◌, ◌<◌, ◌≤◌, eqb, length};
 ghost use Rattle.grid.specs.Window.{Grid};
 ghost use Rattle.lists.specs.Lists.{at, filled};
@@ -13,7 +15,7 @@ use lists::{least_u32, most_u32};
 
 // One of a cell's pairs: with the cell `on` places further. It is pair `here` of the square that begins `first` places before the cell,
 // and pair `there` of the one that begins `second` places before. A cell's flag has its `bit` if it is kept.
-#[derive(Drop)]
+#[derive(Clone, Copy)]
 struct Side {
     on: usize,
     first: usize,

@@ -1,4 +1,6 @@
 // The stages of the network, one after the other: rules 1 to 10 on a tile's lists, heights and levels lifted.
+#![tactic(auto)]
+
 ghost use Rattle.std.specs.Prelude.{List, ◌≡◌, ℕ, ◌≤◌, length, take};
 ghost use Rattle.grid.specs.Masks.{joined, mask_of};
 ghost use Rattle.grid.specs.Window.{around};

@@ -1,6 +1,8 @@
 // The text that `drain` prints (document 01), for a tile and for a refusal, and the lines that `follow` prints, as bytes in a lent list:
 // specs/Text.antt says which. Crate lake_text writes its lines with the same numbers, levels and words.
 // Only reading and writing are left to the program. These are leaves: callers show that there is room, as `Printable` says of a tile.
+#![tactic(auto)]
+
 ghost use Rattle.std.specs.Prelude.{cond, [], map, ◌++◌, ◌∷◌, ◌≡◌, ◌<◌, ◌≤◌, eqb, length, take};
 ghost use Rattle.lists.specs.Lists.{at, sum};
 ghost use Rattle.rules.specs.Ground.{dropped};

@@ -2,6 +2,8 @@
 //
 // The work is bounded by the list and not by the budget: at most three moves for each entry. A walk of as many moves as the list has
 // entries is on a ring for good, and what is left of the budget counts modulo the ring's length.
+#![tactic(auto)]
+
 ghost use Rattle.std.specs.Prelude.{◌≡◌, ◌<◌, ◌≤◌, length};
 ghost use Rattle.lists.specs.Lists.{at, repeat};
 ghost use Rattle.rules.specs.Trace.{trace_from, trace as Rules·trace};
@@ -11,7 +13,7 @@ ghost use Rattle.trace.specs.Ring.{OnRing, ring_length, Stays};
 use kinds::Cell;
 
 // What a trace comes to. specs/Answer.antt gives document 01's number and values for each case.
-#[derive(Drop)]
+#[derive(Clone, Copy)]
 pub enum TraceAnswer {
     // The outlet, and the steps taken.
     Outlet(Cell, u32),

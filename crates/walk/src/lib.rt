@@ -2,6 +2,8 @@
 // The stack's entries hold a cell, its receiver and the mask of the cells that receive to it. At each cell the entries of its
 // neighbours are written, and the top moves by the bits of the cell's mask: no branch depends on the ground.
 // This holds for any receivers that drain: carved ones, or those of another manner.
+#![tactic(auto)]
+
 ghost use Rattle.std.specs.Prelude.{◌≡◌, ℕ, ◌+◌, ◌<◌, ◌≤◌, max, List, ◌++◌, map, length, drop, if◌then◌else◌, slice_set};
 ghost use Rattle.grid.specs.Window.{around};
 ghost use Rattle.lists.specs.Lists.{at, filled, keep, upto};
@@ -57,7 +59,7 @@ const ABOVE_RIGHT: u32 = 224;
 const MARGIN: usize = 65;
 
 // A stack's entry: a cell, its receiver and the mask of the cells that receive to it, in one number.
-#[derive(Drop)]
+#[derive(Clone, Copy)]
 struct Entry(u32);
 
 impl Entry {

@@ -8,8 +8,7 @@ use borrow.Author.Rules.{rules}
 use Rattle.lists.proofs.Stored.{stored_on}
 use Rattle.lists.specs.Lists.{stored}
 use Rattle.sections.specs.LittleEndian.{bytes_of}
-use Rattle.sections.proofs.write_u64.Statement.{statement}
-use Rattle.sections.proofs.write_u64.Tie as tie
+use Rattle.sections.proofs.write_u64.Goals as goal
 
 last_byte : (a q b : ℕ) → a ≡ 256 * q + b → a % 256 ≡ b % 256
 last_byte a q b e = omega arith
@@ -29,19 +28,9 @@ halves x = go (x / 4294967296) (x % 4294967296) (omega arith) (omega arith)
         let d = last_byte (x / 256 / 256 / 256) q (r / 256 / 256 / 256) (omega arith) in
         rw (four, a, b, c, d)
 
-returns : tie.Need-returns
+pub returns : goal.returns
 returns c =
-    let high = c.before.before in
-    let low = high.before.before.before.before in
-    let a = low.before.before.before.args in
+    let a = c.args in
     stored_on (bytes_of 4 (a.x % 4294967296)) (bytes_of 4 (a.x / 4294967296)) a.bytes.now a.from (a.from + 4) refl (omega arith)
-    low.write-u32.ensures high.write-u322.ensures
+    c.write_u32.ensures c.write_u32-2.ensures
     ∙ ap (λ (l : List ℕ). stored a.from l a.bytes.now) (halves a.x)
-
-pub write-u64-spec : {M : Type 1} → statement M
-write-u64-spec =
-    tie.close
-    (tie.spec
-    (λ c. search rules) (λ c κs. search rules) (λ c. search rules) (λ c. search rules) (λ c κs. search rules)
-    (λ c. search rules)
-    returns)

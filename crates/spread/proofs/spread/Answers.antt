@@ -8,9 +8,8 @@ use native.Mathlib.Omega.{arith}
 use lib.ListN.{length}
 use borrow.Author.Rules.{rules}
 use Rattle.spread.specs.Spread.{Spreadable}
-use Rattle.spread.proofs.spread.Statement.{statement}
-use Rattle.spread.proofs.spread.Tie as tie
 use Rattle.grid.specs.declared.Neighbours.{Neighbours}
+use Rattle.spread.proofs.spread.Goals as goal
 
 -- with another queue of the same length
 with-queue : {N : Neighbours} {w : ℕ} {E : ℕ → ℕ → Bool} {masks counts queue : List ℕ} (now : List ℕ) → length now ≡ length queue
@@ -26,17 +25,14 @@ with-queue now same P =
       first = P.first;
     }
 
-flood-requires : tie.Need-flood-requires
-flood-requires c κs =
-    let g = c.before.before.before.before in
-    let (E, P) = g.before.before.before.before.before.before.requires in
-    ((E, with-queue g.gather.new.1.1.0 g.gather.auto.1.1.0 P), g.gather.ensures)
+pub flood-requires : goal.flood-requires
+flood-requires c =
+    let (E, P) = c.requires in
+    record {
+      by_index = (E, with-queue c.gather-starts.new.queue c.gather-starts.auto.queue P);
+      packs = c.gather-starts.ensures;
+    }
 
-returns : tie.Need-returns
+pub returns : goal.returns
 returns c =
-    let f = c.before.before.before.before in
-    let g = f.before.before.before.before.before in
-    λ E P. f.flood.ensures E (with-queue g.gather.new.1.1.0 g.gather.auto.1.1.0 P)
-
-pub spread-spec : {M : Type 1} → statement M
-spread-spec = tie.close (tie.spec (λ c κs. search rules) flood-requires (λ c. search rules) (λ c. search rules) returns)
+    λ E P. c.flood.ensures E (with-queue c.gather-starts.new.queue c.gather-starts.auto.queue P)

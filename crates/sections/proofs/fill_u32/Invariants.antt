@@ -1,0 +1,17 @@
+-- `sections::fill_u32` meets its contract: after i turns the part is the section of the first i entries, and then what it was.
+-- Assumes nothing.
+use mathlib.Core.Path.{refl, ◌∙◌, ◌≡◌}
+use Prim.Native.Nat.{◌-◌, ◌≤◌}
+use native.Mathlib.Omega.{arith}
+use lib.ListN.{length}
+use borrow.Author.Rules.{rules}
+use Rattle.sections.proofs.Sections.{section_all, section_next}
+use Rattle.sections.specs.LittleEndian.{section_filled}
+use Rattle.sections.proofs.fill_u32.Given as goal
+
+abbrev pub invariant-loop-i : goal.invariant-loop-i
+invariant-loop-i l =
+    (l.i-end ≡ length l.list) × (l.i ≤ length l.list) × (length l.part ≡ length l.initial.part) × (l.part ≡ section_filled 4 l.list l.initial.part l.i)
+
+abbrev pub decreases-loop-i : goal.decreases-loop-i
+decreases-loop-i l = length l.list - l.i
