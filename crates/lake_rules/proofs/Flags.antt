@@ -37,16 +37,16 @@ module _ (L : Land) (S : List ℕ) (on : OnLand L S) {t : ℕ} {s : List ℕ} (K
       let k = mem_lower L h S n in K.whole a b m (let u = k.1 in lower_mem L t k.0 (omega arith)) (under_more L (λ d i. i) l c)
 
   -- a chain from a cell of the lake stays in the lake
-  pub stay : {a b h : ℕ} → h ≤ t → a ∈ s → Under L S h a b → Under L s h a b
+  pub stay : {h a b : ℕ} → h ≤ t → a ∈ s → Under L S h a b → Under L s h a b
   stay l m (here e) = here e
-  stay {a} {b} {h} l m (forth x i e c) =
+  stay {h} {a} {b} l m (forth x i e c) =
       let v = touch_is L (lower L h S) i in
       let g : x.lesser ∈ s = subst (λ (z : ℕ). z ∈ s) (sym e) m in
       let n : x.greater ∈ s = one_step l g v.other_in (forth x i refl (here refl)) in
       forth x (touch_in L (lower L h s) x.lesser x.greater
       (lower_mem L h g (mem_lower L h S v.one_in).1) (lower_mem L h n (mem_lower L h S v.other_in).1) v.ordered v.beside) e
       (stay l n c)
-  stay {a} {b} {h} l m (back x i e c) =
+  stay {h} {a} {b} l m (back x i e c) =
       let v = touch_is L (lower L h S) i in
       let g : x.greater ∈ s = subst (λ (z : ℕ). z ∈ s) (sym e) m in
       let n : x.lesser ∈ s = one_step l g v.one_in (back x i refl (here refl)) in

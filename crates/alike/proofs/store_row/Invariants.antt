@@ -1,0 +1,17 @@
+-- `alike::store_row` meets its contract: before column x is stored the columns before it are.
+-- Assumes nothing.
+use mathlib.Core.Path.{ap, ◌≡◌}
+use Prim.Native.Nat.{ℕ, ◌+◌, ◌-◌, ◌≤◌}
+use native.Mathlib.Omega.{arith}
+use borrow.Author.Rules.{rules}
+use Rattle.alike.specs.Columns.{in_column}
+use Rattle.lists.proofs.Puts.{puts_next, puts_none, puts_to}
+use Rattle.lists.specs.Stores.{Puts}
+use Rattle.alike.proofs.store_row.Given as goal
+
+abbrev pub invariant-loop-x : goal.invariant-loop-x
+invariant-loop-x l =
+    (l.x ≤ l.w) × Puts (λ k. in_column l.w l.left l.middle l.right (k - l.b)) l.b (l.b + l.x) l.initial.out l.out
+
+abbrev pub decreases-loop-x : goal.decreases-loop-x
+decreases-loop-x l = l.w - l.x

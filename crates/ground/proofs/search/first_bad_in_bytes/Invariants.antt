@@ -1,0 +1,22 @@
+-- `ground::search::first_bad_in_bytes` meets its contract: the two loops keep that no cell before theirs is bad (Searching).
+-- Assumes nothing.
+use mathlib.Core.Path.{sym, ◌∙◌}
+use Prim.Native.Nat.{◌*◌, ◌+◌, ◌-◌, ◌<◌, ◌≤◌}
+use native.Mathlib.Omega.{arith}
+use borrow.Author.Rules.{rules}
+use Rattle.grid.proofs.Rows.{rows_fit}
+use Rattle.ground.proofs.Searching.{begun, cell_passed, entry-within, found, in_tile, none_found, row_passed, Searching}
+use Rattle.ground.specs.Sought.{bad_in_bytes, bytes_each}
+use Rattle.ground.proofs.search.first_bad_in_bytes.Given as goal
+
+abbrev pub invariant-loop-col : goal.invariant-loop-col
+invariant-loop-col l = (l.col ≤ l.width) × Searching (bad_in_bytes l.sought l.bytes) l.width l.height l.place l.row l.col
+
+abbrev pub decreases-loop-col : goal.decreases-loop-col
+decreases-loop-col l = l.width - l.col
+
+abbrev pub invariant-search : goal.invariant-search
+invariant-search l = (l.row ≤ l.height) × Searching (bad_in_bytes l.sought l.bytes) l.width l.height l.place l.row 0
+
+abbrev pub decreases-search : goal.decreases-search
+decreases-search l = l.height - l.row

@@ -1,0 +1,14 @@
+-- `pairs::step` meets its contract. The two arms of the test: one on, or a row on, and from there one back, none or one on.
+-- Assumes nothing.
+use Prim.Native.Nat.{◌%◌}
+use native.Mathlib.Omega.{arith}
+use borrow.Author.Rules.{rules}
+use Rattle.pairs.proofs.Pairs.{step_down, step_on}
+use Rattle.pairs.proofs.step.Goals as goal
+
+pub returns-then-side-eq0 : goal.returns-then-side-eq0
+returns-then-side-eq0 c = rw c.if-side-eq0.true (step_on c.args.w)
+
+pub returns-else-side-eq0 : goal.returns-else-side-eq0
+returns-else-side-eq0 c =
+    step_down c.args.w (c.args.p % 4) c.requires.0 (omega (arith, c.if-side-eq0.false)) (omega arith)
