@@ -1,0 +1,43 @@
+-- `drainage::drain_section` meets its contract. The cells' own water is written, and then each gives backwards through the order.
+-- Assumes nothing.
+use mathlib.Core.List.{List}
+use mathlib.Core.Path.{ap, ◌∙◌, ◌≡◌}
+use Prim.Native.Nat.{ℕ, ◌*◌, ◌+◌, ◌<◌}
+use native.Mathlib.Omega.{arith}
+use borrow.Author.Rules.{rules}
+use Rattle.drainage.proofs.Backwards.{drained_own}
+use Rattle.lists.proofs.Filled.{filled_at}
+use Rattle.lists.proofs.Tab.{tab-at}
+use Rattle.lists.specs.Lists.{at}
+use Rattle.sections.proofs.Numbers.{number_at-below}
+use Rattle.sections.specs.LittleEndian.{number_at, numbers_at}
+use Rattle.drainage.proofs.drain_section.Goals as goal
+
+pub give_all-requires : goal.give_all-requires
+give_all-requires c =
+    let own = c.section_water in
+    let s = c.args.bytes.now in
+    let from = c.args.from in
+    let n = c.args.n in
+    let same = own.auto.drainage in
+    let room = c.requires.n_in_bounds in record {
+        by_index = c.requires.by_index;
+        n_in_bounds = (
+        omega arith,
+        λ (goal.at.give_all-requires c).After-give_all-arg-1 h. let e : at own.new.drainage (goal.at.give_all-requires c).After-give_all-arg-1 ≡ number_at 2 s (from + 2 * (goal.at.give_all-requires c).After-give_all-arg-1) =
+            ap (λ (l : List ℕ). at l (goal.at.give_all-requires c).After-give_all-arg-1) own.ensures ∙ filled_at (at (numbers_at 2 s from n)) n c.args.drainage.now (goal.at.give_all-requires c).After-give_all-arg-1 h
+            ∙ tab-at (λ k. number_at 2 s (from + 2 * k)) n (goal.at.give_all-requires c).After-give_all-arg-1 0 h in
+            let small : number_at 2 s (from + 2 * (goal.at.give_all-requires c).After-give_all-arg-1) < 65536 =
+            number_at-below 2 s (from + 2 * (goal.at.give_all-requires c).After-give_all-arg-1)
+            (λ k l. omega (arith, c.shared_slice_known-1.given k)) (omega arith) in
+            omega arith,
+      );
+      }
+
+pub returns : goal.returns
+returns c =
+    let own = c.section_water in
+    let gave = c.give_all in
+    let n = c.args.n in
+    λ L r G. drained_own L r (numbers_at 2 c.args.bytes.now c.args.from n) c.args.drainage.now own.new.drainage
+    gave.new.drainage n G.cells own.ensures (gave.ensures L r G)

@@ -1,0 +1,18 @@
+-- `records::write_sections` meets its contract: each section is stored next to what was stored before it.
+-- Assumes nothing.
+use mathlib.Core.Path.{◌∙◌}
+use borrow.Author.Rules.{rules}
+use Rattle.ground.proofs.Acceptance.{good_full}
+use Rattle.ground.specs.Record.{ground_of_lists}
+use Rattle.heights.specs.Bits.{height_section}
+use Rattle.lists.proofs.Stored.{stored-start}
+use Rattle.records.proofs.Sections.{record_done}
+use Rattle.records.proofs.write_sections.Goals as goal
+
+pub returns : goal.returns
+returns c =
+    let a = c.args in
+    let g = ground_of_lists a.width a.height a.heights.now a.marks.now a.water.now in
+    record_done g (good_full g c.requires.0) a.bytes.now c.cells-n.result c.cells-n.ensures
+    (c.write_section_heights.ensures ∙ stored-start (height_section a.heights.now) a.bytes.now)
+    c.write_section_u8.ensures c.write_section_u16.ensures c.write_trailer.ensures

@@ -1,0 +1,13 @@
+-- `walk::note_heights` meets its contract: between turns the levels of the cells before c are their heights.
+-- Assumes nothing.
+use Rattle.std.proofs.Common.{◌≡◌, ℕ, ◌-◌, ◌≤◌, length, sym, refl, ap, ◌∙◌, arith, length-set, rules}
+use Rattle.lists.proofs.Filled.{filled_next, filled_none}
+use Rattle.lists.specs.Lists.{at, filled}
+use Rattle.walk.proofs.note_heights.Given as goal
+
+abbrev pub invariant-loop-c : goal.invariant-loop-c
+invariant-loop-c l =
+    (l.c ≤ length l.heights) × (length l.levels ≡ length l.initial.levels) × (l.levels ≡ filled (at l.heights) l.c l.initial.levels)
+
+abbrev pub decreases-loop-c : goal.decreases-loop-c
+decreases-loop-c l = length l.heights - l.c
