@@ -74,7 +74,7 @@ module _ {heights parents joins : List ℕ} {h : ℕ} {s : List ℕ} (G : Gather
           → End c (repeat k up (up c))
       go (inl j) ih =
           let p : at parents c < c = G.parent_less c m w j in
-          let e = ih (omega arith) (G.parent_in_lem c m w j) (G.parent_lower c m w j) in
+          let e = ih (omega arith) (G.parent_in c m w j) (G.parent_lower c m w j) in
           subst (λ (z : ℕ). End c (repeat k up z)) (sym (up_parent c j))
           (record { inside = e.inside; low = e.low; least = omega (arith, e.least); last = e.last })
       go (inr j) ih =
@@ -96,7 +96,7 @@ module _ {heights parents joins : List ℕ} {h : ℕ} {s : List ℕ} (G : Gather
       let p : ℕ = at parents c in
       let l : p < c = G.parent_less c m w j in
       let e : c ≡ suc (p + (c - suc p)) = omega arith in
-      let z = way_end p p (le_refl p) (G.parent_in_lem c m w j) (G.parent_lower c m w j) in
+      let z = way_end p p (le_refl p) (G.parent_in c m w j) (G.parent_lower c m w j) in
       ap (λ (k : ℕ). repeat k up c) e
       ∙ ap (repeat (p + (c - suc p)) up) (up_parent c j)
       ∙ repeat_add up p (c - suc p) p
@@ -136,7 +136,7 @@ module _ {heights parents joins : List ℕ} {h : ℕ} {s : List ℕ} (G : Gather
       go : (c : ℕ) → (c ∈ s) × (at heights c < h) → (at joins c < h) ⊎ (h ≤ at joins c) → names_itself ends c ≡ not (ltb (at joins c) h)
       go c (m, w) (inl j) =
           let l : at parents c < c = G.parent_less c m w j in
-          let e = root_end (at parents c) (G.parent_in_lem c m w j) (G.parent_lower c m w j) in
+          let e = root_end (at parents c) (G.parent_in c m w j) (G.parent_lower c m w j) in
           ne_eqb (at ends c) c (λ q. omega (arith, label_is c m, root_parent c m w j, e.least))
           ∙ sym (not_is (ltb (at joins c) h) (lt-ltb (at joins c) h j))
       go c (m, w) (inr j) =

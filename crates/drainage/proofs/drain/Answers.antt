@@ -12,19 +12,19 @@ use Rattle.lists.specs.Lists.{at}
 use Rattle.drainage.proofs.drain.Goals as goal
 
 pub give_all-requires : goal.give_all-requires
-give_all-requires c =
-    let own = c.own_water in
-    let n = length c.args.water.now in
+give_all-requires at-goal =
+    let own = at-goal.own_water in
+    let n = length at-goal.args.water.now in
     let same = own.auto.drainage in
-    let room = c.requires.water_in_bounds in record {
-        by_index = c.requires.by_index;
-        n_in_bounds = (
+    let room = at-goal.requires.water_in_bounds in record {
+      by_index = at-goal.requires.by_index;
+      n_in_bounds = (
         omega arith,
-        λ (goal.at.give_all-requires c).After-give_all-arg-1 h. let e : at own.new.drainage (goal.at.give_all-requires c).After-give_all-arg-1 ≡ at c.args.water.now (goal.at.give_all-requires c).After-give_all-arg-1 =
-            ap (λ (l : List ℕ). at l (goal.at.give_all-requires c).After-give_all-arg-1) own.ensures ∙ filled_at (at c.args.water.now) n c.args.drainage.now (goal.at.give_all-requires c).After-give_all-arg-1 h in
-            omega (arith, c.shared_slice_known-1.given (goal.at.give_all-requires c).After-give_all-arg-1),
+        λ c h. let e : at own.new.drainage c ≡ at at-goal.args.water.now c =
+            ap (λ (l : List ℕ). at l c) own.ensures ∙ filled_at (at at-goal.args.water.now) n at-goal.args.drainage.now c h in
+            omega (arith, at-goal.shared_slice_known-1.given c),
       );
-      }
+    }
 
 pub returns : goal.returns
 returns c =

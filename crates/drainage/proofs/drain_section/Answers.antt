@@ -14,25 +14,25 @@ use Rattle.sections.specs.LittleEndian.{number_at, numbers_at}
 use Rattle.drainage.proofs.drain_section.Goals as goal
 
 pub give_all-requires : goal.give_all-requires
-give_all-requires c =
-    let own = c.section_water in
-    let s = c.args.bytes.now in
-    let from = c.args.from in
-    let n = c.args.n in
+give_all-requires at-goal =
+    let own = at-goal.section_water in
+    let s = at-goal.args.bytes.now in
+    let from = at-goal.args.from in
+    let n = at-goal.args.n in
     let same = own.auto.drainage in
-    let room = c.requires.n_in_bounds in record {
-        by_index = c.requires.by_index;
-        n_in_bounds = (
+    let room = at-goal.requires.n_in_bounds in record {
+      by_index = at-goal.requires.by_index;
+      n_in_bounds = (
         omega arith,
-        λ (goal.at.give_all-requires c).After-give_all-arg-1 h. let e : at own.new.drainage (goal.at.give_all-requires c).After-give_all-arg-1 ≡ number_at 2 s (from + 2 * (goal.at.give_all-requires c).After-give_all-arg-1) =
-            ap (λ (l : List ℕ). at l (goal.at.give_all-requires c).After-give_all-arg-1) own.ensures ∙ filled_at (at (numbers_at 2 s from n)) n c.args.drainage.now (goal.at.give_all-requires c).After-give_all-arg-1 h
-            ∙ tab-at (λ k. number_at 2 s (from + 2 * k)) n (goal.at.give_all-requires c).After-give_all-arg-1 0 h in
-            let small : number_at 2 s (from + 2 * (goal.at.give_all-requires c).After-give_all-arg-1) < 65536 =
-            number_at-below 2 s (from + 2 * (goal.at.give_all-requires c).After-give_all-arg-1)
-            (λ k l. omega (arith, c.shared_slice_known-1.given k)) (omega arith) in
+        λ c h. let e : at own.new.drainage c ≡ number_at 2 s (from + 2 * c) =
+            ap (λ (l : List ℕ). at l c) own.ensures ∙ filled_at (at (numbers_at 2 s from n)) n at-goal.args.drainage.now c h
+            ∙ tab-at (λ k. number_at 2 s (from + 2 * k)) n c 0 h in
+            let small : number_at 2 s (from + 2 * c) < 65536 =
+            number_at-below 2 s (from + 2 * c)
+            (λ k l. omega (arith, at-goal.shared_slice_known-1.given k)) (omega arith) in
             omega arith,
       );
-      }
+    }
 
 pub returns : goal.returns
 returns c =

@@ -40,18 +40,18 @@ abbrev entry : At-loop-top → ℕ
 entry lp = at lp.loop-top.stack lp.loop-top.top.0
 
 -- what is known at each turn
-record Turn (lp : tie.At-loop invariant-loop decreases-loop) : Type 0 where
+record Turn (lp : At-loop-top) : Type 0 where
   pub few : cells lp ≤ 4096
-  pub wide : 0 < (start lp).args.w
-  pub narrow : (start lp).args.w ≤ 64
-  pub margin : cells lp + 130 ≤ length (start lp).args.links.now
+  pub wide : 0 < lp.args.w
+  pub narrow : lp.args.w ≤ 64
+  pub margin : cells lp + 130 ≤ length lp.args.links.now
   pub fits : LentHolds (cells lp) (held lp)
-  pub here : lp.loop.top.0 < cells lp
-  pub more : lp.loop.written.0 < cells lp
+  pub here : lp.loop-top.top.0 < cells lp
+  pub more : lp.loop-top.written.0 < cells lp
   pub cell_on : cell_in (entry lp) < cells lp
   pub receiver_there : receiver_in (entry lp) < cells lp
-  pub bits : ones around (mask_in (entry lp)) ≤ lp.loop.top.0
-  pub asked : MaskAsked (start lp).args.neighbours (mask_in (entry lp))
+  pub bits : ones around (mask_in (entry lp)) ≤ lp.loop-top.top.0
+  pub asked : MaskAsked lp.args.neighbours (mask_in (entry lp))
 
 turn-here : (lp : At-loop-top) → lp.loop-top.top.0 < cells lp → Turn lp
 turn-here lp t =

@@ -56,28 +56,28 @@ shape_of-stack c =
 
 pub returns : goal.returns
 unfolding pushes
-returns c =
-    let a = c.args in
+returns at-goal =
+    let a = at-goal.args in
     let ls = a.links.now in let c = a.c.0 in let m = a.mask in let w = a.w in
     let old = drop (a.top.0 + 1) a.stack.now in
-    let f = beside_entry w ls (goal.at.returns c).After-slice_known-5-1 in
+    let f = beside_entry w ls c in
     let H = halved m in
-    let p1 = c.push_row-top1 in let p2 = c.push-top2 in let p3 = c.push-top3 in let p4 = c.push_row in
-    let wide = c.requires.w_nonzero.0 in let narrow = c.requires.w_nonzero.1 in
-    let sub6 = c.wrapping_sub_u32 in let sub2 = c.wrapping_sub_u32-2 in
-    let e6 = entries.below_left w ls (goal.at.returns c).After-slice_known-5-1 wide narrow (search rules) sub6.ensures.value c.beside-below_left.ensures in
-    let e7 = entries.below w ls (goal.at.returns c).After-slice_known-5-1 wide narrow c.beside-below.ensures in
-    let e8 = entries.below_right w ls (goal.at.returns c).After-slice_known-5-1 wide narrow c.beside-below_right.ensures in
-    let e5 = entries.right w ls (goal.at.returns c).After-slice_known-5-1 wide narrow c.beside-right.ensures in
-    let e3 = entries.left w ls (goal.at.returns c).After-slice_known-5-1 wide narrow c.beside-left.ensures in
-    let e0 = entries.above-left w ls (goal.at.returns c).After-slice_known-5-1 wide narrow c.beside-above_left.ensures in
-    let e1 = entries.above w ls (goal.at.returns c).After-slice_known-5-1 wide narrow c.beside-above.ensures in
-    let e2 = entries.above-right w ls (goal.at.returns c).After-slice_known-5-1 wide narrow (search rules) sub2.ensures.value c.beside-above_right.ensures in
+    let p1 = at-goal.push_row-top1 in let p2 = at-goal.push-top2 in let p3 = at-goal.push-top3 in let p4 = at-goal.push_row in
+    let wide = at-goal.requires.w_nonzero.0 in let narrow = at-goal.requires.w_nonzero.1 in
+    let sub6 = at-goal.wrapping_sub_u32 in let sub2 = at-goal.wrapping_sub_u32-2 in
+    let e6 = entries.below_left w ls c wide narrow (search rules) sub6.ensures.value at-goal.beside-below_left.ensures in
+    let e7 = entries.below w ls c wide narrow at-goal.beside-below.ensures in
+    let e8 = entries.below_right w ls c wide narrow at-goal.beside-below_right.ensures in
+    let e5 = entries.right w ls c wide narrow at-goal.beside-right.ensures in
+    let e3 = entries.left w ls c wide narrow at-goal.beside-left.ensures in
+    let e0 = entries.above-left w ls c wide narrow at-goal.beside-above_left.ensures in
+    let e1 = entries.above w ls c wide narrow at-goal.beside-above.ensures in
+    let e2 = entries.above-right w ls c wide narrow (search rules) sub2.ensures.value at-goal.beside-above_right.ensures in
     let k6 = kept_of-row f 6 7 8 [] (m / 32) (m / 2 / 2 / 2 / 2 / 2) old p1.ensures.1 (ap (λ (x : ℕ). x % 8) (sym H.five_times))
     e6 e7 e8 refl in
     let k5 = kept_of_push f 5 (6 ∷ 7 ∷ 8 ∷ []) (m / 2 / 2 / 2 / 2) old p2.ensures.1 (ap (λ (x : ℕ). x % 2) (sym H.four_times)) e5 k6 in
     let k3 = kept_of_push f 3 (5 ∷ 6 ∷ 7 ∷ 8 ∷ []) (m / 2 / 2 / 2) old p3.ensures.1 (ap (λ (x : ℕ). x % 2) (sym H.thrice)) e3 k5 in
     let k0 = kept_of-row f 0 1 2 (3 ∷ 5 ∷ 6 ∷ 7 ∷ 8 ∷ []) (m % 8) m old p4.ensures.1 (mod-mod m 8) e0 e1 e2 k3 in
-    let moved = moved_all m a.top.0 (length a.stack.now) c.requires.mask_bound.0 c.requires.mask_bound.1 p1.ensures.0 p1.auto.stack
+    let moved = moved_all m a.top.0 (length a.stack.now) at-goal.requires.mask_bound.0 at-goal.requires.mask_bound.1 p1.ensures.0 p1.auto.stack
     p2.ensures.0 p2.auto.stack p3.ensures.0 p3.auto.stack p4.result.0 p4.ensures.0 in
     (moved, k0)

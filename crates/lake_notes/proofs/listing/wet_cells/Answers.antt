@@ -1,0 +1,36 @@
+-- `lake_notes::wet_cells` meets its contract: after c cells the wet ones among them stand at the start.
+-- Assumes nothing.
+use Prim.Native.Nat.{◌-◌, ◌≤◌}
+use native.Mathlib.Omega.{arith}
+use lib.ListN.{length}
+use borrow.Author.Rules.{rules}
+use Rattle.lake_notes.proofs.WetCells.{Kept, kept_all, kept_dry, kept_none, kept_wet}
+use Rattle.lake_notes.proofs.listing.wet_cells.Goals as goal
+
+pub loop-c-init : goal.loop-c-init
+loop-c-init c = let a = c.args in (omega arith, kept_none a.heights.now a.levels.now a.cells.now)
+
+pub bounds-cells-k : goal.bounds-cells-k
+bounds-cells-k c = let K = c.loop-c.invariant.1 in omega (arith, K.long, K.few)
+
+pub loop-c-preserved-then-heights-c : goal.loop-c-preserved-then-heights-c
+loop-c-preserved-then-heights-c c =
+    let a = c.args in
+    let K = c.loop-c.invariant.1 in
+    (omega arith, kept_wet a.heights.now a.levels.now K c.if-heights-c.true (omega (arith, K.few, c.requires)))
+
+pub loop-c-preserved : goal.loop-c-preserved
+loop-c-preserved c =
+    let a = c.args in
+    (omega arith, kept_dry a.heights.now a.levels.now c.loop-c.invariant.1 c.if-heights-c.false)
+
+pub returns : goal.returns
+returns c =
+    let a = c.args in
+    kept_all a.heights.now a.levels.now c.loop-c.invariant.1 (omega arith)
+
+pub overflow_add-k : goal.overflow_add-k
+overflow_add-k c = let K = c.loop-c.invariant.1 in omega (arith, K.few)
+
+pub shape_of-cells : goal.shape_of-cells
+shape_of-cells c = c.loop-c.invariant.1.long

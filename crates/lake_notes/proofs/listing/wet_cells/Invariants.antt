@@ -1,0 +1,14 @@
+-- `lake_notes::wet_cells` meets its contract: after c cells the wet ones among them stand at the start.
+-- Assumes nothing.
+use Prim.Native.Nat.{◌-◌, ◌≤◌}
+use native.Mathlib.Omega.{arith}
+use lib.ListN.{length}
+use borrow.Author.Rules.{rules}
+use Rattle.lake_notes.proofs.WetCells.{Kept, kept_all, kept_dry, kept_none, kept_wet}
+use Rattle.lake_notes.proofs.listing.wet_cells.Given as goal
+
+abbrev pub invariant-loop-c : goal.invariant-loop-c
+invariant-loop-c l = (l.c ≤ length l.heights) × Kept l.heights l.levels l.initial.cells l.cells l.k l.c
+
+abbrev pub decreases-loop-c : goal.decreases-loop-c
+decreases-loop-c l = length l.heights - l.c

@@ -1,0 +1,14 @@
+-- `lake_notes::wet_pairs` meets its contract: after c cells their pairs stand at the start.
+-- Assumes nothing.
+use Prim.Native.Nat.{◌-◌, ◌≤◌}
+use native.Mathlib.Omega.{arith}
+use lib.ListN.{length, length-set}
+use borrow.Author.Rules.{rules}
+use Rattle.lake_notes.proofs.PairTurns.{Listing, listing_all, listing_next, listing_none, some_left}
+use Rattle.lake_notes.proofs.listing.wet_pairs.Given as goal
+
+abbrev pub invariant-loop-c : goal.invariant-loop-c
+invariant-loop-c l = (l.c ≤ length l.heights) × Listing l.w l.heights l.levels l.initial.list l.list l.k l.left l.c
+
+abbrev pub decreases-loop-c : goal.decreases-loop-c
+decreases-loop-c l = length l.heights - l.c

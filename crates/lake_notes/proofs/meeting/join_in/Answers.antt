@@ -1,0 +1,64 @@
+-- `lake_notes::join_in` meets its contract: each cell is alone and nothing is noted, then pair after pair is taken.
+-- Assumes nothing.
+use mathlib.Core.Path.{ap, ◌∙◌}
+use borrow.Author.Rules.{rules}
+use Rattle.lake_notes.proofs.Turns.{as_long_sized, as_long_then, AsLong, so_far_begun}
+use Rattle.lake_notes.specs.Meeting.{Lists, lists_of}
+use Rattle.lists.specs.Lists.{upto}
+use Rattle.lake_notes.proofs.meeting.join_in.Goals as goal
+use Rattle.lake_notes.proofs.meeting.join_in.Goals.{After-begin, Start}
+
+-- the lists that are given, and those that it begins with
+abbrev given : Start → Lists
+given c =
+    let a = c.args in
+    lists_of a.group.now a.lows.now a.flags.now a.parents.now a.joins.now
+
+abbrev left : After-begin → Lists
+left c =
+    let l = c.begin.new.1 in
+    lists_of c.alone.new.group l.0 l.1.0 l.1.1.0 l.1.1.1.0
+
+begun : (c : After-begin)
+    → AsLong (given (goal.at.After-begin c).Start) (left c)
+begun c =
+    let kept = c.begin.auto.1 in
+    record {
+      group_long = c.alone.auto.group;
+      lows_long = kept.0;
+      flags_long = kept.1.0;
+      parents_long = kept.1.1.0;
+      joins_long = kept.1.1.1.0;
+    }
+
+pub join_pairs-requires : goal.join_pairs-requires
+join_pairs-requires c =
+    let a = c.args in
+    let b = c.begin.ensures in
+    let alone = c.alone.ensures ∙ ap upto c.requires.sized.group_sized in record {
+      climbing = c.requires.climbing;
+      sized = as_long_sized (begun (goal.at.join_pairs-requires c).After-begin) c.requires.sized;
+      by_index = λ marks. so_far_begun a.w a.heights.now marks (given (goal.at.join_pairs-requires c).Start) (left (goal.at.join_pairs-requires c).After-begin) alone b.0 b.1 b.2 b.3 a.list.now;
+    }
+
+pub returns : goal.returns
+returns c =
+    let all = c.join_pairs in
+    let kept = all.auto.1.1.1 in
+    let last = all.new.1.1.1 in
+    record {
+      group = last.0;
+      lows = last.1.0;
+      sized =
+          as_long_sized
+          (as_long_then (begun (goal.at.returns c).After-begin)
+          (record {
+            group_long = kept.0;
+            lows_long = kept.1.0;
+            flags_long = kept.1.1.0;
+            parents_long = kept.1.1.1.0;
+            joins_long = kept.1.1.1.1.0;
+          }))
+          c.requires.sized;
+      so_far = all.ensures;
+    }

@@ -1,0 +1,27 @@
+-- `passes::join` meets its contract: it unites the labels of the pair's two cells.
+-- Assumes nothing.
+use native.Mathlib.Omega.{arith}
+use borrow.Author.Rules.{rules}
+use Rattle.pairs.proofs.Pairs.{pair_climbs}
+use Rattle.pairs.specs.Pairs.{greater_of, lesser_of}
+use Rattle.passes.proofs.join.Goals as goal
+
+pub bounds-labels-a : goal.bounds-labels-a
+bounds-labels-a c =
+    omega (arith, pair_climbs c.args.w c.args.p c.requires.w_nonzero.0)
+
+pub bounds-labels-b : goal.bounds-labels-b
+bounds-labels-b c =
+    omega (arith, pair_climbs c.args.w c.args.p c.requires.w_nonzero.0)
+
+pub unite-requires : goal.unite-requires
+unite-requires c =
+    let in-groups = c.requires.p_in_bounds.1 in (
+      rw c.lesser-a.ensures (in-groups (lesser_of c.args.p) (omega (arith, c.requires.p_in_bounds.0, pair_climbs c.args.w c.args.p c.requires.w_nonzero.0))),
+      rw c.greater-b.ensures (in-groups (greater_of c.args.w c.args.p) c.requires.p_in_bounds.0),
+      c.requires.w_nonzero.3,
+    )
+
+pub returns : goal.returns
+returns c =
+    rw (c.lesser-a.ensures, c.greater-b.ensures) at c.unite.ensures

@@ -1,0 +1,10 @@
+-- `sheet::lead_weight` meets its contract. The two arms of the test.
+-- Assumes nothing.
+use Rattle.std.proofs.Common.{eq-eqb, ne_eqb}
+use Rattle.sheet.proofs.lead_weight.Goals as goal
+
+pub returns-then-count-eq0 : goal.returns-then-count-eq0
+returns-then-count-eq0 c = rw (eq-eqb _ _ c.if-count-eq0.true)
+
+pub returns-else-count-eq0 : goal.returns-else-count-eq0
+returns-else-count-eq0 c = rw (ne_eqb _ _ c.if-count-eq0.false)
