@@ -1,6 +1,10 @@
 // The program `drain` (document 01): reads one ground record from standard input and prints its network, or why it is refused.
-// specs/Drain.antt says what is printed for every input; only the reading and the writing themselves are not in any contract.
-ghost use Rattle.std.specs.Prelude.{◌≡◌, ◌*◌, ◌≤◌, length, take};
+// specs/Drain.antt says what is printed for every input, and `answer` promises it of any reader and writer whose bytes are known; that the
+// system's streams are such is in no contract.
+#![tactic(auto)]
+
+ghost use Rattle.std.specs.Prelude.{◌≡◌, ◌*◌, ◌≤◌, IfSome, OnOk, length, take};
+ghost use Rattle.std.specs.Io.KnownBytes.{Appends};
 ghost use Rattle.drain.specs.Drain.{drain_text};
 ghost use Rattle.grid.specs.declared.Neighbours.TheVariants.{Four};
 ghost use Rattle.ground.specs.Record.{ground_in};
@@ -12,8 +16,11 @@ ghost use Rattle.text.specs.Writing.{most_text, Printed};
 
 use grid::Neighbours;
 use ground::Judged;
+use inputs::read_full;
 use record_stages::{link_record, walk_record};
 use rules::Manner;
+use std::io;
+use std::io::{Read, Write};
 
 // The text of the ground in a record, from the lists that its network stands at the start of. Work space: 8 KB.
 fn print_lists(
@@ -119,11 +126,18 @@ fn drain_text(bytes: &[u8], text: &mut [u8]) -> usize
     }
 }
 
-// One byte more than the largest record is read: that an input is too long shows in it, and endless input ends.
-fn main() {
-    let mut input = [0u8; 28689];
+// Reads an input and writes its text. One byte more than the largest record is read: that an input is too long shows in it, and endless input
+// ends. A read or a write that fails is the answer, and then some of the text may be written.
+fn answer<R: Read, W: Write>(input: &mut R, output: &mut W) -> io::Result<()>
+    ensures { OnOk result (IfSome (R.remaining input.old) (λ s. Appends (W.contents output.old) (W.contents output.new) (drain_text s))) }
+{
+    let mut bytes = [0u8; 28689];
     let mut text = [0u8; 131072];
-    let got = io::read_full(0, &mut input);
-    let len = drain_text(&input[..got], &mut text);
-    io::write_all(1, &text[..len]);
+    let got = read_full(input, &mut bytes)?;
+    let len = drain_text(&bytes[..got], &mut text);
+    output.write_all(&text[..len])
+}
+
+fn main(rt: HostRuntime) -> io::Result<()> {
+    answer(&mut rt.stdin(), &mut rt.stdout())
 }

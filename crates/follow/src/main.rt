@@ -1,11 +1,17 @@
 // The program `follow`: reads one question from standard input, a cell, a budget and a list of receivers, and prints where the trace
-// ends, or why it is refused. specs/Follow.antt says what is printed for every input; only the reading and the writing themselves
-// are not in any contract.
-ghost use Rattle.std.specs.Prelude.{◌&&◌, ◌≡◌, ◌≤◌, leb, length};
+// ends, or why it is refused. specs/Follow.antt says what is printed for every input, and `answer` promises it of any reader and writer
+// whose bytes are known; that the system's streams are such is in no contract.
+#![tactic(auto)]
+
+ghost use Rattle.std.specs.Prelude.{◌&&◌, ◌≡◌, ◌≤◌, IfSome, OnOk, leb, length};
+ghost use Rattle.std.specs.Io.KnownBytes.{Appends};
 ghost use Rattle.follow.specs.Follow.{asked, follow_text, has_list, longest_question, traced_text};
 ghost use Rattle.text.specs.Writing.{Printed};
 ghost use Rattle.trace.specs.Answer.{answer_of};
 
+use inputs::read_full;
+use std::io;
+use std::io::{Read, Write};
 use trace::TraceAnswer;
 
 // The line of an answer, and how many bytes it takes: at most 25, for a cell of 16 bits and steps of 32.
@@ -53,11 +59,18 @@ fn follow_text(bytes: &[u8], text: &mut [u8]) -> usize
     text::write_refused(text, 2, 0)
 }
 
-// One byte more than the longest question is read: that an input is too long shows in it, and endless input ends.
-fn main() {
-    let mut input = [0u8; 8201];
+// Reads an input and writes its text. One byte more than the longest question is read: that an input is too long shows in it, and endless
+// input ends. A read or a write that fails is the answer, and then some of the text may be written.
+fn answer<R: Read, W: Write>(input: &mut R, output: &mut W) -> io::Result<()>
+    ensures { OnOk result (IfSome (R.remaining input.old) (λ s. Appends (W.contents output.old) (W.contents output.new) (follow_text s))) }
+{
+    let mut bytes = [0u8; 8201];
     let mut text = [0u8; 32];
-    let got = io::read_full(0, &mut input);
-    let len = follow_text(&input[..got], &mut text);
-    io::write_all(1, &text[..len]);
+    let got = read_full(input, &mut bytes)?;
+    let len = follow_text(&bytes[..got], &mut text);
+    output.write_all(&text[..len])
+}
+
+fn main(rt: HostRuntime) -> io::Result<()> {
+    answer(&mut rt.stdin(), &mut rt.stdout())
 }

@@ -1,6 +1,10 @@
 // The program `lakes` (document 02, W-202): reads one ground record from standard input and prints its lakes, or why it is refused.
-// specs/Program.antt says what is printed for every input; only the reading and the writing themselves are not in any contract.
-ghost use Rattle.std.specs.Prelude.{◌≤◌, length};
+// specs/Program.antt says what is printed for every input, and `answer` promises it of any reader and writer whose bytes are known; that the
+// system's streams are such is in no contract.
+#![tactic(auto)]
+
+ghost use Rattle.std.specs.Prelude.{◌≤◌, IfSome, OnOk, length};
+ghost use Rattle.std.specs.Io.KnownBytes.{Appends};
 ghost use Rattle.ground.specs.Record.{ground_in};
 ghost use Rattle.lake_text.specs.LakeText.{most_lakes_text};
 ghost use Rattle.lakes.specs.Program.{ground_lakes_text, lakes_program_text};
@@ -8,7 +12,10 @@ ghost use Rattle.record_stages.specs.Readable.{Readable};
 ghost use Rattle.text.specs.Writing.{Printed};
 
 use ground::Judged;
+use inputs::read_full;
 use lake_list::Found;
+use std::io;
+use std::io::{Read, Write};
 
 // The text of the lakes of the ground in an accepted record of width by height cells. Work space: 64 KB, and that of listing the lakes.
 fn print_lakes(bytes: &[u8], width: u16, height: u16, text: &mut [u8]) -> usize
@@ -36,11 +43,18 @@ fn lakes_text(bytes: &[u8], text: &mut [u8]) -> usize
     }
 }
 
-// One byte more than the largest record is read: that an input is too long shows in it, and endless input ends.
-fn main() {
-    let mut input = [0u8; 28689];
+// Reads an input and writes its text. One byte more than the largest record is read: that an input is too long shows in it, and endless input
+// ends. A read or a write that fails is the answer, and then some of the text may be written.
+fn answer<R: Read, W: Write>(input: &mut R, output: &mut W) -> io::Result<()>
+    ensures { OnOk result (IfSome (R.remaining input.old) (λ s. Appends (W.contents output.old) (W.contents output.new) (lakes_program_text s))) }
+{
+    let mut bytes = [0u8; 28689];
     let mut text = [0u8; 131072];
-    let got = io::read_full(0, &mut input);
-    let len = lakes_text(&input[..got], &mut text);
-    io::write_all(1, &text[..len]);
+    let got = read_full(input, &mut bytes)?;
+    let len = lakes_text(&bytes[..got], &mut text);
+    output.write_all(&text[..len])
+}
+
+fn main(rt: HostRuntime) -> io::Result<()> {
+    answer(&mut rt.stdin(), &mut rt.stdout())
 }

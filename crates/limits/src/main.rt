@@ -1,94 +1,97 @@
 // Document 01's limits and their like on the other side, one line each: what was tried, then the number and the place given back. Then
 // sample F both ways, the traces T1 to T5 and the largest budget. All run through the public calls; the file stdout has what they print.
+#![tactic(auto)]
+
 use ground::Judged;
+use std::io;
 use trace::TraceAnswer;
 
 // A word and two numbers on a line.
-fn line(word: &[u8], first: u32, second: u32) {
-    io::write_all(1, word);
-    io::print_decimal(1, first as u64);
-    io::write_all(1, b" ");
-    io::print_decimal(1, second as u64);
-    io::write_all(1, b"\n");
+fn line(rt: &impl Print, word: &str, first: u32, second: u32) -> io::Result<()> {
+    println!(rt; "{word}{first} {second}")
 }
 
 // One line: a word, and the number and the place of an answer.
-fn say(word: &[u8], judged: Judged) {
+fn say(rt: &impl Print, word: &str, judged: Judged) -> io::Result<()> {
     line(
+        rt,
         word,
         ground::number(judged) as u32,
         ground::place(judged) as u32,
-    );
+    )
 }
 
 // One cell of this height, an outlet.
-fn cell(word: &[u8], height: i32) {
+fn cell(rt: &impl Print, word: &str, height: i32) -> io::Result<()> {
     let heights = [height];
-    say(word, ground::check_lists(1, 1, &heights, &[1], &[0]));
+    say(rt, word, ground::check_lists(1, 1, &heights, &[1], &[0]))
 }
 
 // Level ground of 63, 64 and 65 cells, all outlets, with all the water that there can be.
-fn of_63(word: &[u8], width: u16, height: u16) {
+fn of_63(rt: &impl Print, word: &str, width: u16, height: u16) -> io::Result<()> {
     say(
+        rt,
         word,
         ground::check_lists(width, height, &[0i32; 63], &[1u8; 63], &[65535u16; 63]),
-    );
+    )
 }
 
-fn of_64(word: &[u8], width: u16, height: u16) {
+fn of_64(rt: &impl Print, word: &str, width: u16, height: u16) -> io::Result<()> {
     say(
+        rt,
         word,
         ground::check_lists(width, height, &[0i32; 64], &[1u8; 64], &[65535u16; 64]),
-    );
+    )
 }
 
-fn of_65(word: &[u8], width: u16, height: u16) {
+fn of_65(rt: &impl Print, word: &str, width: u16, height: u16) -> io::Result<()> {
     say(
+        rt,
         word,
         ground::check_lists(width, height, &[0i32; 65], &[1u8; 65], &[65535u16; 65]),
-    );
+    )
 }
 
 // The ends of the range of heights.
-fn heights() {
-    cell(b"height 8000000: ", 8_000_000);
-    cell(b"height 8000001: ", 8_000_001);
-    cell(b"height -8000000: ", -8_000_000);
-    cell(b"height -8000001: ", -8_000_001);
+fn heights(rt: &impl Print) -> io::Result<()> {
+    cell(rt, "height 8000000: ", 8_000_000)?;
+    cell(rt, "height 8000001: ", 8_000_001)?;
+    cell(rt, "height -8000000: ", -8_000_000)?;
+    cell(rt, "height -8000001: ", -8_000_001)
 }
 
 // The ends of 32 bits.
-fn extremes() {
-    cell(b"height 2147483647: ", 2_147_483_647);
-    cell(b"height -2147483648: ", -2_147_483_648);
+fn extremes(rt: &impl Print) -> io::Result<()> {
+    cell(rt, "height 2147483647: ", 2_147_483_647)?;
+    cell(rt, "height -2147483648: ", -2_147_483_648)
 }
 
 // The ends of width and height.
-fn sizes() {
-    of_64(b"64 by 1: ", 64, 1);
-    of_65(b"65 by 1: ", 65, 1);
-    of_64(b"1 by 64: ", 1, 64);
-    of_65(b"1 by 65: ", 1, 65);
+fn sizes(rt: &impl Print) -> io::Result<()> {
+    of_64(rt, "64 by 1: ", 64, 1)?;
+    of_65(rt, "65 by 1: ", 65, 1)?;
+    of_64(rt, "1 by 64: ", 1, 64)?;
+    of_65(rt, "1 by 65: ", 1, 65)
 }
 
 // Lists and records that are too short or too long.
-fn lengths() {
-    of_63(b"8 by 8, 63 entries: ", 8, 8);
-    of_65(b"8 by 8, 65 entries: ", 8, 8);
-    say(b"15 bytes: ", ground::check_record(&[0u8; 15]));
-    say(b"16 bytes: ", ground::check_record(&[0u8; 16]));
+fn lengths(rt: &impl Print) -> io::Result<()> {
+    of_63(rt, "8 by 8, 63 entries: ", 8, 8)?;
+    of_65(rt, "8 by 8, 65 entries: ", 8, 8)?;
+    say(rt, "15 bytes: ", ground::check_record(&[0u8; 15]))?;
+    say(rt, "16 bytes: ", ground::check_record(&[0u8; 16]))
 }
 
 // Bytes as two hexadecimal digits each, on one line.
-fn show(bytes: &[u8]) {
-    for i in 0..bytes.len() {
-        io::print_hex(1, bytes[i] as u64, 2);
+fn show(rt: &impl Print, bytes: &[u8]) -> io::Result<()> {
+    for byte in bytes {
+        print!(rt; "{byte:02x}")?;
     }
-    io::write_all(1, b"\n");
+    println!(rt)
 }
 
 // Sample F read into lists, and written again into a record with a byte more.
-fn both_ways() {
+fn both_ways(rt: &impl Print) -> io::Result<()> {
     let f =
         b"\xFD\xFF\xFF\xFF\x04\x00\x00\x00\x00\x01\x02\x00\x03\x00\x02\x00\x01\x00\x0E\x00\x00\x00\x06\x00\x00\x00\x04\x00\x00\x00";
     let mut heights = [0i32; 2];
@@ -96,46 +99,48 @@ fn both_ways() {
     let mut water = [0u16; 2];
     let mut again = [0xAAu8; 31];
     say(
-        b"F read: ",
+        rt,
+        "F read: ",
         records::read_record(f, &mut heights, &mut marks, &mut water),
-    );
+    )?;
     say(
-        b"F written: ",
+        rt,
+        "F written: ",
         records::write_record(2, 1, &heights, &marks, &water, &mut again),
-    );
-    show(&again);
+    )?;
+    show(rt, &again)
 }
 
 // The answer in document 01's words and numbers.
-fn say_trace(answer: TraceAnswer) {
+fn say_trace(rt: &impl Print, answer: TraceAnswer) -> io::Result<()> {
     match answer {
-        TraceAnswer::Outlet(cell, steps) => line(b"outlet ", cell.0 as u32, steps),
-        TraceAnswer::Stopped(cell, steps) => line(b"stopped ", cell.0 as u32, steps),
-        TraceAnswer::BadList => line(b"refused ", 2, 0),
-        TraceAnswer::BadCell => line(b"refused ", 8, 0),
-        TraceAnswer::BadEntry(cell) => line(b"refused ", 9, cell.0 as u32),
+        TraceAnswer::Outlet(cell, steps) => line(rt, "outlet ", cell.0 as u32, steps),
+        TraceAnswer::Stopped(cell, steps) => line(rt, "stopped ", cell.0 as u32, steps),
+        TraceAnswer::BadList => line(rt, "refused ", 2, 0),
+        TraceAnswer::BadCell => line(rt, "refused ", 8, 0),
+        TraceAnswer::BadEntry(cell) => line(rt, "refused ", 9, cell.0 as u32),
     }
 }
 
 // T1 to T5, the largest budget on T4's ring, which is answered at once, and a cell outside the list.
-fn traces() {
+fn traces(rt: &impl Print) -> io::Result<()> {
     let g: [u16; 6] = [0, 2, 3, 4, 5, 5];
     let ring: [u16; 2] = [1, 0];
     let outside: [u16; 2] = [0, 9];
-    say_trace(trace::trace(&g, 1, 4));
-    say_trace(trace::trace(&g, 1, 3));
-    say_trace(trace::trace(&g, 5, 0));
-    say_trace(trace::trace(&ring, 0, 5));
-    say_trace(trace::trace(&outside, 1, 0));
-    say_trace(trace::trace(&ring, 0, 4_294_967_295));
-    say_trace(trace::trace(&ring, 2, 1));
+    say_trace(rt, trace::trace(&g, 1, 4))?;
+    say_trace(rt, trace::trace(&g, 1, 3))?;
+    say_trace(rt, trace::trace(&g, 5, 0))?;
+    say_trace(rt, trace::trace(&ring, 0, 5))?;
+    say_trace(rt, trace::trace(&outside, 1, 0))?;
+    say_trace(rt, trace::trace(&ring, 0, 4_294_967_295))?;
+    say_trace(rt, trace::trace(&ring, 2, 1))
 }
 
-fn main() {
-    heights();
-    extremes();
-    sizes();
-    lengths();
-    both_ways();
-    traces();
+fn main(rt: HostRuntime) -> io::Result<()> {
+    heights(&rt)?;
+    extremes(&rt)?;
+    sizes(&rt)?;
+    lengths(&rt)?;
+    both_ways(&rt)?;
+    traces(&rt)
 }
