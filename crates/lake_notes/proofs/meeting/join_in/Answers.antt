@@ -16,19 +16,17 @@ given c =
 
 abbrev left : After-begin → Lists
 left c =
-    let l = c.begin.new.1 in
-    lists_of c.alone.new.group l.0 l.1.0 l.1.1.0 l.1.1.1.0
+    lists_of c.alone.new.group c.begin.new.lows c.begin.new.flags c.begin.new.parents c.begin.new.joins
 
 begun : (c : After-begin)
     → AsLong (given (goal.at.After-begin c).Start) (left c)
 begun c =
-    let kept = c.begin.auto.1 in
     record {
       group_long = c.alone.auto.group;
-      lows_long = kept.0;
-      flags_long = kept.1.0;
-      parents_long = kept.1.1.0;
-      joins_long = kept.1.1.1.0;
+      lows_long = c.begin.auto.lows;
+      flags_long = c.begin.auto.flags;
+      parents_long = c.begin.auto.parents;
+      joins_long = c.begin.auto.joins;
     }
 
 pub join_pairs-requires : goal.join_pairs-requires
@@ -44,20 +42,18 @@ join_pairs-requires c =
 pub returns : goal.returns
 returns c =
     let all = c.join_pairs in
-    let kept = all.auto.1.1.1 in
-    let last = all.new.1.1.1 in
     record {
-      group = last.0;
-      lows = last.1.0;
+      group = c.join_pairs.new.group;
+      lows = c.join_pairs.new.lows;
       sized =
           as_long_sized
           (as_long_then (begun (goal.at.returns c).After-begin)
           (record {
-            group_long = kept.0;
-            lows_long = kept.1.0;
-            flags_long = kept.1.1.0;
-            parents_long = kept.1.1.1.0;
-            joins_long = kept.1.1.1.1.0;
+            group_long = c.join_pairs.auto.group;
+            lows_long = c.join_pairs.auto.lows;
+            flags_long = c.join_pairs.auto.flags;
+            parents_long = c.join_pairs.auto.parents;
+            joins_long = c.join_pairs.auto.joins;
           }))
           c.requires.sized;
       so_far = all.ensures;

@@ -28,16 +28,15 @@ pub loop-i-preserved : goal.loop-i-preserved
 loop-i-preserved c =
     let met = c.join_pair in
     let C = c.requires.climbing in
-    let kept = met.auto.1.1.1 in
     let more = c.loop-i-test.true in (
       omega (arith, more),
       turned_next C c.loop-i.invariant.1 more met.ensures
           (record {
-            group_long = kept.0;
-            lows_long = kept.1.0;
-            flags_long = kept.1.1.0;
-            parents_long = kept.1.1.1.0;
-            joins_long = kept.1.1.1.1.0;
+            group_long = c.join_pair.auto.group;
+            lows_long = c.join_pair.auto.lows;
+            flags_long = c.join_pair.auto.flags;
+            parents_long = c.join_pair.auto.parents;
+            joins_long = c.join_pair.auto.joins;
           }),
     )
 
