@@ -1,0 +1,9 @@
+-- `network_impostors::answers::accepted_cells` meets its contract: the cases of the code are the definition's.
+-- Assumes nothing.
+use mathlib.Core.Path.{ap, sym, ◌∙◌}
+use borrow.Author.Rules.{rules}
+use Rattle.network_impostors.specs.Impostors.{accepted_cells}
+use Rattle.network_impostors.proofs.answers.accepted_cells.Goals as goal
+
+pub returns-in-Accepted : goal.returns-in-Accepted
+returns-in-Accepted c = c.cells.ensures ∙ sym (ap accepted_cells c.in-Accepted.is)

@@ -1,0 +1,17 @@
+-- `network_impostors::zero_levels::clear_levels` meets its contract: after k turns the first k entries are 0.
+-- Assumes nothing.
+use mathlib.Core.Path.{refl, sym, ◌∙◌, ◌≡◌}
+use Prim.Native.Nat.{◌-◌, ◌≤◌}
+use native.Mathlib.Omega.{arith}
+use lib.IntN.{pos}
+use lib.ListN.{length, length-set}
+use borrow.Author.Rules.{rules}
+use Rattle.lists.proofs.Filled.{filled_next, filled_none}
+use Rattle.lists.specs.Lists.{filled}
+use Rattle.network_impostors.proofs.zero_levels.clear_levels.Given as goal
+
+abbrev pub invariant-loop-k : goal.invariant-loop-k
+invariant-loop-k l = (l.k ≤ l.n) × (length l.list ≡ length l.initial.list) × (l.list ≡ filled (λ _. pos 0) l.k l.initial.list)
+
+abbrev pub decreases-loop-k : goal.decreases-loop-k
+decreases-loop-k l = l.n - l.k
