@@ -11,8 +11,7 @@ use Rattle.network_record.proofs.answer_for_c.Goals as goal
 
 pub length_answer-requires : goal.length_answer-requires
 length_answer-requires c =
-    let size = c.judged-in-Accepted-1.given in
-    let short = subst (λ (j : Judged). length_of j ≤ 61468) size.1 c.requires in
+    let short = subst (λ (j : Judged). length_of j ≤ 61468) c.in-Accepted.is c.requires in
     omega arith
 
 pub returns-in-Refused : goal.returns-in-Refused
