@@ -1,0 +1,30 @@
+-- `drain::drain_text` meets its contract: an accepted record and a refused input, each by its law.
+-- Assumes nothing.
+use mathlib.Core.Path.{sym, ◌∙◌}
+use borrow.Author.Rules.{rules}
+use Rattle.drain.specs.Drain.{drain_text}
+use Rattle.record_text.proofs.Input.{accepted_text, input_readable, refused_text_lem}
+use Rattle.text.proofs.Writing.{printed_same}
+use Rattle.text.specs.Text.{ground_text}
+use Rattle.drain.proofs.drain_text.Goals as goal
+
+pub print_tile-requires : goal.print_tile-requires
+print_tile-requires c =
+    record {
+      readable = input_readable c.args.bytes.now (sym c.judge_input-judged.ensures ∙ c.in-Accepted.is);
+      most_text_in_bounds = c.requires;
+    }
+
+pub returns-in-Accepted : goal.returns-in-Accepted
+unfolding drain_text
+returns-in-Accepted c =
+    let s = c.args.bytes.now in
+    printed_same c.print_tile.ensures
+    (sym (accepted_text ground_text s (sym c.judge_input-judged.ensures ∙ c.in-Accepted.is)))
+
+pub returns-in-Refused : goal.returns-in-Refused
+unfolding drain_text
+returns-in-Refused c =
+    let s = c.args.bytes.now in
+    printed_same c.write_refusal.ensures
+    (sym (refused_text_lem ground_text s (sym c.judge_input-judged.ensures ∙ c.in-Refused.is)))

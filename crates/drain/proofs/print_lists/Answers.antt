@@ -1,0 +1,57 @@
+-- `drain::print_lists` meets its contract: what is printed are the first N entries of the lists, and the marks and the water of the record.
+-- Assumes nothing.
+use mathlib.Core.List.{List}
+use mathlib.Core.Path.{◌≡◌}
+use Prim.Native.Nat.{ℕ, ◌*◌, ◌-◌}
+use lib.ListN.{replicate, take}
+use borrow.Author.Rules.{rules}
+use Rattle.drain.proofs.Printing.{printable, text_is}
+use Rattle.ground.specs.Record.{ground_in}
+use Rattle.lists.specs.Lists.{stretch}
+use Rattle.record_stages.proofs.Reading.{marks_are, water_are}
+use Rattle.rules.specs.Ground.{cells_of, Ground}
+use Rattle.text.proofs.Writing.{printed_same}
+use Rattle.drain.proofs.print_lists.Goals as goal
+use Rattle.drain.proofs.print_lists.Goals.{After-read_section_u16}
+
+abbrev ground : After-read_section_u16 → Ground
+ground c = let a = c.args in ground_in a.bytes.now a.width a.height
+
+-- N, as it was counted
+abbrev count : After-read_section_u16 → ℕ
+count c = c.cells-n.result
+
+counted : (c : After-read_section_u16) → count c ≡ cells_of (ground c)
+counted c = c.cells-n.ensures
+
+-- the marks where they stand, and the water as it was read
+abbrev marks : After-read_section_u16 → List ℕ
+marks c = stretch (4 * count c) (5 * count c - 4 * count c) c.args.bytes.now
+
+abbrev water : After-read_section_u16 → List ℕ
+water c = c.read_section_u16.new.list
+
+marks-here : (c : After-read_section_u16) → marks c ≡ (ground c).marks
+marks-here c =
+    let a = c.args in
+    marks_are a.bytes.now a.width a.height c.requires.readable.good (count c) (counted c)
+
+water-here : (c : After-read_section_u16) → take (count c) (water c) ≡ (ground c).water
+water-here c =
+    let a = c.args in
+    water_are a.bytes.now a.width a.height c.requires.readable.good (replicate 4096 0) (count c) (counted c) c.read_section_u16.ensures
+
+pub write_tile-requires : goal.write_tile-requires
+write_tile-requires c =
+    let a = c.args in
+    let net = c.requires.receivers_value in
+    printable (ground (goal.at.write_tile-requires c).After-read_section_u16) c.requires.readable.good (count (goal.at.write_tile-requires c).After-read_section_u16) (counted (goal.at.write_tile-requires c).After-read_section_u16) a.receivers.now a.levels.now a.drainage.now
+    (marks (goal.at.write_tile-requires c).After-read_section_u16) (water (goal.at.write_tile-requires c).After-read_section_u16) net.0 net.1 net.2 (marks-here (goal.at.write_tile-requires c).After-read_section_u16) (water-here (goal.at.write_tile-requires c).After-read_section_u16) c.requires.most_text_in_bounds
+
+pub returns : goal.returns
+returns c =
+    let a = c.args in
+    let net = c.requires.receivers_value in
+    printed_same c.write_tile.ensures
+    (text_is (ground (goal.at.returns c).After-read_section_u16) c.requires.readable.good (count (goal.at.returns c).After-read_section_u16) (counted (goal.at.returns c).After-read_section_u16) a.receivers.now a.levels.now a.drainage.now
+    (marks (goal.at.returns c).After-read_section_u16) (water (goal.at.returns c).After-read_section_u16) net.0 net.1 net.2 (marks-here (goal.at.returns c).After-read_section_u16) (water-here (goal.at.returns c).After-read_section_u16))
