@@ -13,8 +13,7 @@ use Rattle.rules.specs.Ground.{dropped}
 use Rattle.text.proofs.Lines.{length_field, length-level}
 use Rattle.text.proofs.Writing.{wrote_then}
 use Rattle.text.specs.Text.{decimal, signed_decimal}
-use Rattle.lake_text.proofs.write_lake.Statement.{statement}
-use Rattle.lake_text.proofs.write_lake.Tie as tie
+use Rattle.lake_text.proofs.write_lake.Goals as goal
 
 -- the line's length, and those of its four fields with what follows each
 record Lengths (x : Lake) : Type 0 where
@@ -35,45 +34,29 @@ lengths level count volume least =
       least = length_field least 10;
     }
 
-write-level-requires : tie.Need-write-level-requires
-write-level-requires c κs =
-    let a = c.before.before.args in
+pub write_level-second-requires : goal.write_level-second-requires
+write_level-second-requires c =
+    let a = c.args in
     omega (arith, lengths a.level a.count a.volume a.least.0)
 
-write-number-requires : tie.Need-write-number-requires
-write-number-requires c κs =
-    let a = c.before.before.before.before.before.before.args in
+pub write_number-third-requires : goal.write_number-third-requires
+write_number-third-requires c =
+    let a = c.args in
     omega (arith, lengths a.level a.count a.volume a.least.0)
 
-write-number-requires-2 : tie.Need-write-number-requires-2
-write-number-requires-2 c κs =
-    let a = c.before.before.before.before.before.before.before.before.before.before.args in
+pub write_number-fourth-requires : goal.write_number-fourth-requires
+write_number-fourth-requires c =
+    let a = c.args in
     omega (arith, lengths a.level a.count a.volume a.least.0)
 
-write-number-requires-3 : tie.Need-write-number-requires-3
-write-number-requires-3 c κs =
-    let a = c.before.before.before.before.before.before.before.before.before.before.before.before.before.before.before.args in
+pub write_number-requires : goal.write_number-requires
+write_number-requires c =
+    let a = c.args in
     omega (arith, lengths a.level a.count a.volume a.least.0)
 
-returns : tie.Need-returns
+pub returns : goal.returns
 unfolding lake_line
 returns c =
-    let fourth = c.before.before in
-    let third = fourth.before.before.before.before.before in
-    let second = third.before.before.before.before in
-    let first = second.before.before.before.before in
-    wrote_then first.write-level.ensures
-    (wrote_then second.write-number.ensures (wrote_then third.write-number2.ensures fourth.write-number3.ensures refl) refl)
+    wrote_then c.write_level-second.ensures
+    (wrote_then c.write_number-third.ensures (wrote_then c.write_number-fourth.ensures c.write_number.ensures refl) refl)
     (simp append_assoc)
-
-pub write-lake-spec : {M : Type 1} → statement M
-write-lake-spec =
-    tie.close
-    (tie.spec
-    write-level-requires
-    write-number-requires
-    write-number-requires-2
-    (λ c. search rules)
-    write-number-requires-3
-    (λ c. search rules)
-    returns)

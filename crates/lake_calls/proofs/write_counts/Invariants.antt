@@ -1,0 +1,17 @@
+-- `lake_calls::write_counts` meets its contract: after i turns the first i entries are the numbers of cells of the first i lakes.
+-- Assumes nothing.
+use mathlib.Core.Path.{refl, sym, ◌∙◌, ◌≡◌}
+use Prim.Native.Nat.{◌-◌, ◌≤◌}
+use native.Mathlib.Omega.{arith}
+use lib.ListN.{length, length-set}
+use borrow.Author.Rules.{rules}
+use Rattle.lake_rows.specs.Reading.{count_in}
+use Rattle.lists.proofs.Filled.{filled_next, filled_none}
+use Rattle.lists.specs.Lists.{filled}
+use Rattle.lake_calls.proofs.write_counts.Given as goal
+
+abbrev pub invariant-loop-i : goal.invariant-loop-i
+invariant-loop-i l = (l.i ≤ l.n) × (length l.out ≡ length l.initial.out) × (l.out ≡ filled (count_in l.rows) l.i l.initial.out)
+
+abbrev pub decreases-loop-i : goal.decreases-loop-i
+decreases-loop-i l = l.n - l.i

@@ -1,0 +1,17 @@
+-- `lake_text::write_rows` meets its contract: after each turn one line more is written.
+-- Assumes nothing.
+use mathlib.Core.Path.{refl, ◌∙◌, ◌≡◌}
+use Prim.Native.Nat.{◌-◌, ◌≤◌}
+use native.Mathlib.Omega.{arith}
+use lib.ListN.{length}
+use borrow.Author.Rules.{rules}
+use Rattle.lake_text.proofs.Lines.{lines, lines_next, lines-within}
+use Rattle.text.proofs.Writing.{wrote_none, wrote_then}
+use Rattle.text.specs.Writing.{Wrote}
+use Rattle.lake_text.proofs.write_rows.Given as goal
+
+abbrev pub invariant-loop-i : goal.invariant-loop-i
+invariant-loop-i l = (l.i ≤ l.n) × (length l.text ≡ length l.initial.text) × Wrote l.from (lines l.rows l.i) l.initial.text l.text l.to
+
+abbrev pub decreases-loop-i : goal.decreases-loop-i
+decreases-loop-i l = l.n - l.i
