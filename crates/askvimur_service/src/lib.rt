@@ -24,10 +24,8 @@ use network_by::network_of_record;
 // The answer to what was found; the lakes' bytes are written where that lists them.
 fn write_found(found: Found, rows: &[u64], lakes: &mut [u8]) -> LakesAnswer
     requires { (deep : List (List ℕ)) × (ls : List Lake) × ReadFound deep ls found rows.now }
-    ensures* { λ r. ⌜
-        ((deep : List (List ℕ)) → (ls : List Lake) → ReadFound deep ls found rows.now
-        → Allowed (judge_found (found_of deep ls) (lakes_room lakes.old)) (λ r. room_left r ls lakes.old) r lakes.new)
-        ⌝ }
+    ensures { (deep : List (List ℕ)) → (ls : List Lake) → ReadFound deep ls found rows.now
+        → Allowed (judge_found (found_of deep ls) (lakes_room lakes.old)) (λ r. room_left r ls lakes.old) result lakes.new }
 {
     let answer = judge_found(found, lakes.len() / 16);
     match answer {
@@ -43,10 +41,9 @@ fn write_found(found: Found, rows: &[u64], lakes: &mut [u8]) -> LakesAnswer
 // The lakes of an accepted ground record of width by height cells. Work space: 64 KB, and that of finding lakes.
 fn list_accepted(ground: &[u8], width: u16, height: u16, lakes: &mut [u8]) -> LakesAnswer
     requires { Readable ground.now width height }
-    ensures* { λ r.
-        let g = ground_in ground.now width height in
-        ⌜ Allowed (judge_found (found_of (too_deep_on g) (lakes_on g)) (lakes_room lakes.old)) (λ r. room_left r (lakes_on g) lakes.old)
-        r lakes.new ⌝ }
+    ensures { let g = ground_in ground.now width height in
+        Allowed (judge_found (found_of (too_deep_on g) (lakes_on g)) (lakes_room lakes.old)) (λ r. room_left r (lakes_on g) lakes.old)
+        result lakes.new }
 {
     let mut rows = [0u64; 8192];
     let found = record_lakes(ground, width, height, &mut rows);

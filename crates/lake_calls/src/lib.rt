@@ -153,11 +153,10 @@ fn write_found(
     leasts: &mut [u16],
 ) -> LakesAnswer
     requires { (deep : List (List ℕ)) × (ls : List Lake) × ReadFound deep ls found rows.now }
-    ensures* { λ r.
-        let before = lake_lists levels.old counts.old volumes.old leasts.old in
+    ensures { let before = lake_lists levels.old counts.old volumes.old leasts.old in
         let after = lake_lists levels.new counts.new volumes.new leasts.new in
-        ⌜ ((deep : List (List ℕ)) → (ls : List Lake) → ReadFound deep ls found rows.now
-        → Allowed (judge_found (found_of deep ls) (shortest_lake_list before)) (λ r. lakes_left r ls before) r after) ⌝ }
+        (deep : List (List ℕ)) → (ls : List Lake) → ReadFound deep ls found rows.now
+        → Allowed (judge_found (found_of deep ls) (shortest_lake_list before)) (λ r. lakes_left r ls before) result after }
 {
     let room = shortest_length(levels, counts, volumes, leasts);
     let answer = judge_found(found, room);
@@ -183,12 +182,13 @@ fn list_accepted(
     leasts: &mut [u16],
 ) -> LakesAnswer
     requires { (water : List ℕ) × Good (ground_of_lists width height heights.now marks.now water) }
-    ensures* { λ r.
-        let before = lake_lists levels.old counts.old volumes.old leasts.old in
+    ensures { let before = lake_lists levels.old counts.old volumes.old leasts.old in
         let after = lake_lists levels.new counts.new volumes.new leasts.new in
-        ⌜ ((water : List ℕ) →
+        (water : List ℕ) →
         let g = ground_of_lists width height heights.now marks.now water in
-        Good g → Allowed (judge_found (found_of (too_deep_on g) (lakes_on g)) (shortest_lake_list before)) (λ r. lakes_left r (lakes_on g) before) r after) ⌝ }
+        Good g
+        → Allowed (judge_found (found_of (too_deep_on g) (lakes_on g)) (shortest_lake_list before))
+        (λ r. lakes_left r (lakes_on g) before) result after }
 {
     let n = ground::cells(width, height);
     let w = width as usize;

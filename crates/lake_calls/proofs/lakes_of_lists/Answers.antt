@@ -10,7 +10,7 @@ use Rattle.ground.specs.Rooms.{any_room}
 use Rattle.lake_calls.specs.LakeCall.{judge_lakes, LakeLists, lake_lists, shortest_lake_list}
 use Rattle.rules.specs.Ground.{Ground}
 use Rattle.lake_calls.proofs.lakes_of_lists.Goals as goal
-use Rattle.lake_calls.proofs.lakes_of_lists.Goals.{After-judge_lists-judged, In-Accepted}
+use Rattle.lake_calls.proofs.lakes_of_lists.Goals.{After-judge_lists-judged}
 
 abbrev ground : After-judge_lists-judged → Ground
 ground c = let a = c.args in ground_of_lists a.width a.height a.heights.now a.marks.now a.water.now
@@ -19,14 +19,9 @@ ground c = let a = c.args in ground_of_lists a.width a.height a.heights.now a.ma
 abbrev before : After-judge_lists-judged → LakeLists
 before c = let a = c.args in lake_lists a.levels.now a.counts.now a.volumes.now a.leasts.now
 
-accepted-at : (c : In-Accepted)
-    → let size = c.enum_told-1.given.0 in
-    AcceptedLists any_room (ground (goal.at.In-Accepted c).After-judge_lists-judged) size.0 size.1.0
-accepted-at c = lists_accepted any_room (ground (goal.at.In-Accepted c).After-judge_lists-judged) (sym c.judge_lists-judged.ensures ∙ c.in-Accepted.is)
-
 pub list_accepted-requires : goal.list_accepted-requires
 list_accepted-requires c =
-    (c.args.water.now, (accepted-at (goal.at.list_accepted-requires c).In-Accepted).well-formed)
+    (c.args.water.now, (lists_accepted any_room (ground (goal.at.list_accepted-requires c).After-judge_lists-judged) (sym c.judge_lists-judged.ensures ∙ c.in-Accepted.is)).good)
 
 pub returns-in-Refused : goal.returns-in-Refused
 returns-in-Refused c =
@@ -35,7 +30,7 @@ returns-in-Refused c =
 
 pub returns-in-Accepted : goal.returns-in-Accepted
 returns-in-Accepted c =
-    let A = c.list_accepted.ensures c.args.water.now (accepted-at (goal.at.returns-in-Accepted c).In-Accepted).well-formed in
+    let A = c.list_accepted.ensures c.args.water.now (lists_accepted any_room (ground (goal.at.returns-in-Accepted c).After-judge_lists-judged) (sym c.judge_lists-judged.ensures ∙ c.in-Accepted.is)).good in
     let e : judge_lists any_room (ground (goal.at.returns-in-Accepted c).After-judge_lists-judged) ≡ _ = sym c.judge_lists-judged.ensures ∙ c.in-Accepted.is in
     record {
       answer = A.answer ∙ ap (λ j. judge_lakes j (ground (goal.at.returns-in-Accepted c).After-judge_lists-judged) (shortest_lake_list (before (goal.at.returns-in-Accepted c).After-judge_lists-judged))) (sym e);

@@ -13,7 +13,7 @@ use Rattle.lake_stages.proofs.ReadLakes.{lakes_found}
 use Rattle.lake_stages.specs.ReadFound.{ReadFound}
 use Rattle.lake_list.specs.declared.Found.TheVariants.{Lakes}
 use Rattle.lake_calls.proofs.write_found.Goals as goal
-use Rattle.lake_calls.proofs.write_found.Goals.{After-judge_found-answer, In-Listed-2}
+use Rattle.lake_calls.proofs.write_found.Goals.{After-judge_found-answer, In-Listed}
 
 -- the four lists, as they were lent
 abbrev before : After-judge_found-answer → LakeLists
@@ -26,10 +26,10 @@ judged-at c deep ls R =
     c.judge_found-answer.ensures ∙ ap (judge_found c.args.found) c.shortest_length-room.ensures
     ∙ ap (λ f. judge_found f (shortest_lake_list (before c))) R.found_is
 
-abbrev listed : In-Listed-2 → ℕ
+abbrev listed : In-Listed → ℕ
 listed c = c.in-Listed.n
 
-found-are : (c : In-Listed-2) → (c.args.found ≡ Lakes (listed c)) × (listed c ≤ c.shortest_length-room.result)
+found-are : (c : In-Listed) → (c.args.found ≡ Lakes (listed c)) × (listed c ≤ c.shortest_length-room.result)
 found-are c =
     answer_listed c.args.found c.shortest_length-room.result (listed c)
     (sym c.judge_found-answer.ensures ∙ c.in-Listed.is)
@@ -37,8 +37,8 @@ found-are c =
 pub write_lists-requires : goal.write_lists-requires
 write_lists-requires c =
     let room = c.shortest_length-room.ensures in
-    let fits = (found-are (goal.at.write_lists-requires c).In-Listed-2).1 in
-    let K = lakes_found c.requires.2 (found-are (goal.at.write_lists-requires c).In-Listed-2).0 in
+    let fits = (found-are (goal.at.write_lists-requires c).In-Listed).1 in
+    let K = lakes_found c.requires.2 (found-are (goal.at.write_lists-requires c).In-Listed).0 in
     record {
       n_in_bounds = (omega (arith, K.held), K.fit);
       n_in_bounds_2 = (omega arith, omega arith, omega arith, omega arith);
@@ -48,7 +48,7 @@ pub returns-in-Listed : goal.returns-in-Listed
 returns-in-Listed c =
     λ deep ls R. record {
       answer = sym c.in-Listed.is ∙ judged-at (goal.at.returns-in-Listed c).After-judge_found-answer deep ls R;
-      lists = c.write_lists.ensures ∙ ap (λ (z : List Lake). lakes_onto z (before (goal.at.returns-in-Listed c).After-judge_found-answer)) (lakes_found R (found-are (goal.at.returns-in-Listed c).In-Listed-2).0).are;
+      lists = c.write_lists.ensures ∙ ap (λ (z : List Lake). lakes_onto z (before (goal.at.returns-in-Listed c).After-judge_found-answer)) (lakes_found R (found-are (goal.at.returns-in-Listed c).In-Listed).0).are;
     }
 
 pub returns-in-Refused : goal.returns-in-Refused
