@@ -1,0 +1,48 @@
+-- `askvimur_service::lakes_of_record` meets its contract: only the lakes of an accepted record are looked for.
+-- Assumes nothing.
+use mathlib.Core.Path.{ap, refl, subst, sym, ◌∙◌, ◌≡◌}
+use borrow.Author.Rules.{rules}
+use Rattle.askvimur_service.specs.LakesCall.{lakes_room, room_left}
+use Rattle.ground.proofs.Acceptance.{record_accepted}
+use Rattle.ground.specs.Accepted.{AcceptedRecord}
+use Rattle.ground.specs.Judge.{judge_record}
+use Rattle.ground.specs.Record.{ground_of_record}
+use Rattle.ground.specs.Rooms.{any_room}
+use Rattle.lake_calls.specs.LakeCall.{judge_found, judge_lakes}
+use Rattle.lake_list.specs.Rows.{found_of}
+use Rattle.lake_stages.specs.LakesOn.{lakes_on, too_deep_on}
+use Rattle.lists.specs.Allowed.{Allowed}
+use Rattle.record_stages.proofs.Accepted.{named_ground, readable_here}
+use Rattle.rules.specs.Ground.{Ground}
+use Rattle.ground.specs.declared.Judged.{Judged}
+use Rattle.askvimur_service.proofs.lakes_of_record.Goals as goal
+
+pub list_accepted-requires : goal.list_accepted-requires
+list_accepted-requires c =
+    let told = sym c.check_record-judged.ensures ∙ c.in-Accepted.is in
+    readable_here any_room c.args.ground.now c.in-Accepted.width c.in-Accepted.height (record_accepted any_room c.args.ground.now told)
+
+pub returns-in-Refused : goal.returns-in-Refused
+returns-in-Refused c =
+    let a = c.args in
+    record {
+      answer =
+          ap (λ (j : Judged). judge_lakes j (ground_of_record a.ground.now) (lakes_room a.lakes.now))
+          (sym c.in-Refused.is ∙ c.check_record-judged.ensures);
+      lists = refl;
+    }
+
+pub returns-in-Accepted : goal.returns-in-Accepted
+returns-in-Accepted c =
+    let a = c.args in
+    let room = lakes_room a.lakes.now in
+    let told = sym c.check_record-judged.ensures ∙ c.in-Accepted.is in
+    let A = subst (λ (g : Ground).
+    Allowed (judge_found (found_of (too_deep_on g) (lakes_on g)) room) (λ r. room_left r (lakes_on g) a.lakes.now) c.list_accepted.result
+    c.list_accepted.new.lakes)
+    (named_ground any_room a.ground.now c.in-Accepted.width c.in-Accepted.height (record_accepted any_room a.ground.now told))
+    c.list_accepted.ensures in
+    record {
+      answer = A.answer ∙ ap (λ (j : Judged). judge_lakes j (ground_of_record a.ground.now) room) (sym told);
+      lists = A.lists;
+    }

@@ -1,0 +1,35 @@
+-- `askvimur_service::list_accepted` meets its contract: what is found is the ground's, and is written.
+-- Assumes nothing.
+use native.Mathlib.Omega.{arith}
+use borrow.Author.Rules.{rules}
+use Rattle.ground.specs.Record.{ground_in}
+use Rattle.lake_stages.proofs.FoundLakes.{found_read}
+use Rattle.lake_stages.specs.LakesOn.{lakes_on, too_deep_on}
+use Rattle.lake_stages.specs.ReadFound.{ReadFound}
+use Rattle.rules.specs.Ground.{Ground}
+use Rattle.askvimur_service.proofs.list_accepted.Goals as goal
+use Rattle.askvimur_service.proofs.list_accepted.Goals.{After-record_lakes-found}
+
+abbrev ground : After-record_lakes-found → Ground
+ground c = let a = c.args in ground_in a.ground.now a.width a.height
+
+read_here : (c : After-record_lakes-found)
+    → ReadFound (too_deep_on (ground c)) (lakes_on (ground c)) c.record_lakes-found.result c.record_lakes-found.new.rows
+read_here c =
+    let R = c.requires in
+    let long = c.record_lakes-found.auto.rows in
+    found_read (ground c) R.good c.record_lakes-found.new.rows (omega (arith, long, R.few)) c.record_lakes-found.ensures
+
+pub record_lakes-found-requires : goal.record_lakes-found-requires
+record_lakes-found-requires c = record {
+  readable = c.requires;
+  width_in_bounds = omega (arith, c.requires.few);
+}
+
+pub write_found-requires : goal.write_found-requires
+write_found-requires c =
+    (too_deep_on (ground (goal.at.write_found-requires c).After-record_lakes-found), lakes_on (ground (goal.at.write_found-requires c).After-record_lakes-found), read_here (goal.at.write_found-requires c).After-record_lakes-found)
+
+pub returns : goal.returns
+returns c =
+    c.write_found.ensures (too_deep_on (ground (goal.at.returns c).After-record_lakes-found)) (lakes_on (ground (goal.at.returns c).After-record_lakes-found)) (read_here (goal.at.returns c).After-record_lakes-found)

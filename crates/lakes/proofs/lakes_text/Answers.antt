@@ -1,0 +1,29 @@
+-- `lakes::lakes_text` meets its contract: an accepted record and a refused input, each by its law.
+-- Assumes nothing.
+use mathlib.Core.Path.{sym, ◌∙◌}
+use borrow.Author.Rules.{rules}
+use Rattle.lakes.specs.Program.{ground_lakes_text, lakes_program_text}
+use Rattle.record_text.proofs.Input.{accepted_text, input_readable, refused_text_lem}
+use Rattle.text.proofs.Writing.{printed_same}
+use Rattle.lakes.proofs.lakes_text.Goals as goal
+
+pub print_lakes-requires : goal.print_lakes-requires
+print_lakes-requires c =
+    record {
+      readable = input_readable c.args.bytes.now (sym c.judge_input-judged.ensures ∙ c.in-Accepted.is);
+      most_lakes_text_in_bounds = c.requires;
+    }
+
+pub returns-in-Accepted : goal.returns-in-Accepted
+unfolding lakes_program_text
+returns-in-Accepted c =
+    let s = c.args.bytes.now in
+    printed_same c.print_lakes.ensures
+    (sym (accepted_text ground_lakes_text s (sym c.judge_input-judged.ensures ∙ c.in-Accepted.is)))
+
+pub returns-in-Refused : goal.returns-in-Refused
+unfolding lakes_program_text
+returns-in-Refused c =
+    let s = c.args.bytes.now in
+    printed_same c.write_refusal.ensures
+    (sym (refused_text_lem ground_lakes_text s (sym c.judge_input-judged.ensures ∙ c.in-Refused.is)))

@@ -1,0 +1,51 @@
+-- `lakes::print_lakes` meets its contract: the lakes are printed out of their rows, and a lake that is too deep is refused with 10.
+-- Assumes nothing.
+use mathlib.Core.List.{List}
+use Prim.Native.Nat.{ℕ}
+use native.Mathlib.Omega.{arith}
+use borrow.Author.Rules.{rules}
+use Rattle.ground.specs.Record.{ground_in}
+use Rattle.lake_stages.proofs.FoundLakes.{found_read}
+use Rattle.lake_stages.proofs.ReadLakes.{lakes_found}
+use Rattle.lake_stages.specs.LakesOn.{lakes_on, too_deep_on}
+use Rattle.lake_stages.specs.ReadFound.{ReadFound}
+use Rattle.lakes.proofs.Finding.{deep_text, listed_text}
+use Rattle.rules.specs.Ground.{Ground}
+use Rattle.text.proofs.Writing.{printed_same}
+use Rattle.lakes.proofs.print_lakes.Goals as goal
+use Rattle.lakes.proofs.print_lakes.Goals.{After-record_lakes-found}
+
+abbrev ground : After-record_lakes-found → Ground
+ground c = let a = c.args in ground_in a.bytes.now a.width a.height
+
+abbrev rows : After-record_lakes-found → List ℕ
+rows c = c.record_lakes-found.new.rows
+
+read_here : (c : After-record_lakes-found) → ReadFound (too_deep_on (ground c)) (lakes_on (ground c)) c.record_lakes-found.result (rows c)
+read_here c =
+    let R = c.requires.readable in
+    let long = c.record_lakes-found.auto.rows in
+    found_read (ground c) R.good (rows c) (omega (arith, long, R.few)) c.record_lakes-found.ensures
+
+pub record_lakes-found-requires : goal.record_lakes-found-requires
+record_lakes-found-requires c = record {
+  readable = c.requires.readable;
+  width_in_bounds = omega (arith, c.requires.readable.few);
+}
+
+pub write_lakes-requires : goal.write_lakes-requires
+write_lakes-requires c =
+    let K = lakes_found (read_here (goal.at.write_lakes-requires c).After-record_lakes-found) c.in-Lakes.is in
+    let long = c.record_lakes-found.auto.rows in
+    record {
+      n_bound = (omega (arith, K.held), K.held, K.fit);
+      most_lakes_text_in_bounds = c.requires.most_lakes_text_in_bounds;
+    }
+
+pub returns-in-Lakes : goal.returns-in-Lakes
+returns-in-Lakes c =
+    printed_same c.write_lakes.ensures (listed_text (ground (goal.at.returns-in-Lakes c).After-record_lakes-found) (read_here (goal.at.returns-in-Lakes c).After-record_lakes-found) c.in-Lakes.is)
+
+pub returns-in-TooDeep : goal.returns-in-TooDeep
+returns-in-TooDeep c =
+    printed_same c.write_refused.ensures (deep_text (ground (goal.at.returns-in-TooDeep c).After-record_lakes-found) (read_here (goal.at.returns-in-TooDeep c).After-record_lakes-found) c.in-TooDeep.is)
