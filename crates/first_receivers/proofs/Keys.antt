@@ -1,7 +1,8 @@
 -- The least key of a kind of places says the lowest cell of that kind, and of equally low ones the first. So the key of the steepest way leads to
 -- the place that wins, and its weight is the mask of the first receiver alone.
 -- Assumes nothing.
-use Rattle.std.proofs.Common.{◌≡◌, ℕ, ◌+◌, ◌-◌, ◌*◌, ◌/◌, ◌%◌, ◌<◌, ◌≤◌, Bool, true, false, cond, ltb, ◌⊎◌, List, length, sym, refl, ap, ◌∙◌, subst, inl, inr, arith, ltb-false, ltb-true}
+use Rattle.std.proofs.Common.{◌≡◌, ℕ, ◌+◌, ◌-◌, ◌*◌, ◌/◌, ◌%◌, ◌<◌, ◌≤◌, Bool, true, false, cond, ltb, ◌⊎◌, List, length, sym, refl, ap, ◌∙◌, subst, inl, inr}
+use Rattle.std.proofs.Common.{arith, ltb-false, ltb-true}
 use Rattle.first_receivers.proofs.LeastKeys.{least_of_fact, LeastOf}
 use Rattle.first_receivers.proofs.Taken.{Taking}
 use Rattle.first_receivers.proofs.OneKind.{kind_key, kind_low, kind_none, kind_placed, kind_real, kind_slope, OneKind}

@@ -50,10 +50,12 @@ record_determines_lists p q g k small small' e f same =
 -- and the lists their record: a record that is accepted and read as these lists is the record that is written from them
 pub lists_determine_record : (p : ℕ → Bool) (s : List ℕ) (g : Ground) {a b : ℕ} → Below 256 s → judge_record p s ≡ Accepted a b
     → ground_of_record s ≡ g → s ≡ record_of g
-lists_determine_record p s g bytes e same = sym (writing_what_was_read p any_room s bytes e (any_room_lem (cells_of (ground_of_record s)))).1 ∙ ap record_of same
+lists_determine_record p s g bytes e same = sym (writing_what_was_read p any_room s bytes e (any_room_lem (cells_of (ground_of_record s)))).1 ∙ ap record_of
+    same
 
 -- no two different records are accepted as the same ground
 pub no_two_records_one-ground : (p q : ℕ → Bool) (s t : List ℕ) {a b c d : ℕ} → Below 256 s → Below 256 t
     → judge_record p s ≡ Accepted a b → judge_record q t ≡ Accepted c d → ground_of_record s ≡ ground_of_record t → s ≡ t
 no_two_records_one-ground p q s t bytes bytes' e f same =
-    lists_determine_record p s (ground_of_record t) bytes e same ∙ (writing_what_was_read q any_room t bytes' f (any_room_lem (cells_of (ground_of_record t)))).1
+    lists_determine_record p s (ground_of_record t) bytes e same
+        ∙ (writing_what_was_read q any_room t bytes' f (any_room_lem (cells_of (ground_of_record t)))).1

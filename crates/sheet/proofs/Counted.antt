@@ -1,6 +1,7 @@
 -- Spreading from where counts end, through the neighbours of one level, gives each cell's count.
 -- Assumes nothing.
-use Rattle.std.proofs.Common.{◌≡◌, ℕ, ◌+◌, ◌<◌, ◌≤◌, Bool, true, false, cond, not, ◌||◌, eqb, ◌⊎◌, List, length, sym, refl, ap, ◌∙◌, subst, inl, inr, arith, eq-eqb, eqb-true}
+use Rattle.std.proofs.Common.{◌≡◌, ℕ, ◌+◌, ◌<◌, ◌≤◌, Bool, true, false, cond, not, ◌||◌, eqb, ◌⊎◌, List, length, sym, refl, ap, ◌∙◌, subst, inl, inr, arith}
+use Rattle.std.proofs.Common.{eq-eqb, eqb-true}
 use Rattle.grid.proofs.Rules.{rule_by_lem}
 use Rattle.grid.proofs.Window.{beside_mutual}
 use Rattle.grid.specs.Masks.{Masks}

@@ -1,7 +1,8 @@
 -- Where counts end, by weights: a weight isn't 0 exactly where a cell that is no outlet has a strictly lower neighbour. And a count is 0 exactly
 -- where counts end.
 -- Assumes nothing.
-use Rattle.std.proofs.Common.{◌≡◌, ℕ, ◌<◌, ◌≤◌, Bool, true, false, not, ◌||◌, eqb, ◌⊎◌, List, length, sym, refl, ◌∙◌, subst, inl, inr, true≢false, arith, le-ltb, lt-ltb}
+use Rattle.std.proofs.Common.{◌≡◌, ℕ, ◌<◌, ◌≤◌, Bool, true, false, not, ◌||◌, eqb, ◌⊎◌, List, length, sym, refl, ◌∙◌, subst, inl, inr, true≢false, arith}
+use Rattle.std.proofs.Common.{le-ltb, lt-ltb}
 use Rattle.grid.proofs.Corners.{each_around}
 use Rattle.grid.proofs.Masks.{leads_itself, leads-place}
 use Rattle.grid.proofs.Rules.{around_rule, places-around, rule_by_lem}

@@ -1,7 +1,8 @@
 -- The weight of a level step by counts and a mask: the bit of where the neighbour with the least number stands whose count is one less, and 0 where
 -- there is none. Ascending places are ascending cells, so the first place that passes is that neighbour's.
 -- Assumes nothing.
-use Rattle.std.proofs.Common.{◌≡◌, ℕ, suc, ◌+◌, ◌<◌, ◌≤◌, Bool, true, false, ◌&&◌, eqb, ◌⊎◌, List, [], ◌∷◌, sym, refl, ap, ◌∙◌, subst, inl, inr, true≢false, arith, eq-eqb, ne_eqb, eqb-true}
+use Rattle.std.proofs.Common.{◌≡◌, ℕ, suc, ◌+◌, ◌<◌, ◌≤◌, Bool, true, false, ◌&&◌, eqb, ◌⊎◌, List, [], ◌∷◌, sym, refl, ap, ◌∙◌, subst, inl, inr, true≢false}
+use Rattle.std.proofs.Common.{arith, eq-eqb, ne_eqb, eqb-true}
 use mathlib.Core.List.Memᴰ.{cases_cons as in-cases}
 use mathlib.Core.List.Memᴰ.{head as in_head}
 use mathlib.Core.List.Memᴰ.{not-nil as in-none}

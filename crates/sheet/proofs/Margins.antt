@@ -1,6 +1,7 @@
 -- Lists with a margin: entries stored after the first 65, one more at each turn of a loop, and what stands at a cell's place.
 -- Assumes nothing.
-use Rattle.std.proofs.Common.{◌≡◌, ℕ, ◌+◌, ◌<◌, ◌≤◌, List, [], ◌∷◌, ◌++◌, length, take, drop, set, sym, ap, ◌∙◌, add-one, arith, length-append, length-drop, take-append-drop, length-take-le, get_or-append-add}
+use Rattle.std.proofs.Common.{◌≡◌, ℕ, ◌+◌, ◌<◌, ◌≤◌, List, [], ◌∷◌, ◌++◌, length, take, drop, set, sym, ap, ◌∙◌, add-one, arith, length-append, length-drop}
+use Rattle.std.proofs.Common.{take-append-drop, length-take-le, get_or-append-add}
 use lib.ListN.{get_or-append}
 use Rattle.lists.proofs.Stored.{stored_on, stored-sets}
 use Rattle.lists.proofs.Tab.{tab-length, tab-suc}

@@ -5,7 +5,8 @@
 -- neighbours the greatest of the four sides, and with corners that of each triangle. A basin goes by its label here: two cells have one label
 -- exactly if their basins are one node of rule 4.
 -- Assumes nothing.
-use Rattle.std.specs.Prelude.{Bool, cond, not, ◌&&◌, [], List, ◌++◌, ◌∷◌, ◌⊎◌, ◌≡◌, max, min, suc, zero, ℕ, ◌%◌, ◌*◌, ◌+◌, ◌-◌, ◌/◌, ◌<◌, ◌≤◌, ◌^◌, eqb, ltb, length}
+use Rattle.std.specs.Prelude.{Bool, cond, not, ◌&&◌, [], List, ◌++◌, ◌∷◌, ◌⊎◌, ◌≡◌, max, min, suc, zero, ℕ, ◌%◌, ◌*◌, ◌+◌, ◌-◌, ◌/◌, ◌<◌, ◌≤◌, ◌^◌, eqb, ltb}
+use Rattle.std.specs.Prelude.{length}
 use Rattle.lists.specs.Lists.{at, keep, upto}
 use Rattle.lists.specs.Stores.{Packs}
 use Rattle.grid.specs.declared.Neighbours.{Neighbours}

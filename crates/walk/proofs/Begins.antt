@@ -1,6 +1,7 @@
 -- Where the walk begins: the outlets' entries on the stack, pushed from the last cell down, and heights in the place of levels.
 -- Assumes nothing.
-use Rattle.std.proofs.Common.{◌≡◌, ℕ, ◌+◌, ◌-◌, ◌<◌, ◌≤◌, Bool, true, false, cond, List, ◌++◌, map, length, drop, sym, ap, ◌∙◌, subst, append_assoc, arith, length-append, get_or-drop, drop-drop, drop_at}
+use Rattle.std.proofs.Common.{◌≡◌, ℕ, ◌+◌, ◌-◌, ◌<◌, ◌≤◌, Bool, true, false, cond, List, ◌++◌, map, length, drop, sym, ap, ◌∙◌, subst, append_assoc, arith}
+use Rattle.std.proofs.Common.{length-append, get_or-drop, drop-drop, drop_at}
 use mathlib.Core.List.{map-append}
 use lib.ListN.{length-map}
 use Rattle.grid.proofs.AtPlaces.{one}

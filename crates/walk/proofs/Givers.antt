@@ -2,7 +2,8 @@
 -- links are the bits of its own givers and one more, the bit back: two cells don't receive to each other. So what a visit pushes are the
 -- givers' entries, by ascending number.
 -- Assumes nothing.
-use Rattle.std.proofs.Common.{◌≡◌, ℕ, suc, ◌+◌, ◌-◌, ◌*◌, ◌/◌, ◌%◌, ◌<◌, Bool, true, false, not, List, map, length, drop, sym, ap, ◌∙◌, subst, arith, get_or-drop, eq-eqb, ne_eqb, eqb-true}
+use Rattle.std.proofs.Common.{◌≡◌, ℕ, suc, ◌+◌, ◌-◌, ◌*◌, ◌/◌, ◌%◌, ◌<◌, Bool, true, false, not, List, map, length, drop, sym, ap, ◌∙◌, subst, arith}
+use Rattle.std.proofs.Common.{get_or-drop, eq-eqb, ne_eqb, eqb-true}
 use lib.ListN.{length-map}
 use borrow.Author.Tests.{not-true}
 use Rattle.grid.proofs.AtPlaces.{joined_at, joined-places}

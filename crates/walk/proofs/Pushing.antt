@@ -1,6 +1,7 @@
 -- Writing an entry above the top and moving the top by a bit is pushing the entry where the bit is 1.
 -- Assumes nothing.
-use Rattle.std.proofs.Common.{◌≡◌, ℕ, suc, ◌+◌, ◌-◌, ◌*◌, ◌/◌, ◌%◌, ◌<◌, ◌≤◌, Bool, true, false, cond, ◌⊎◌, List, [], ◌∷◌, ◌++◌, map, length, drop, set, sym, refl, ap, ◌∙◌, inl, inr, append_assoc, arith, length-append, length-set, drop-cons, get_or-set_same, drop-set-lt, ne_eqb}
+use Rattle.std.proofs.Common.{◌≡◌, ℕ, suc, ◌+◌, ◌-◌, ◌*◌, ◌/◌, ◌%◌, ◌<◌, ◌≤◌, Bool, true, false, cond, ◌⊎◌, List, [], ◌∷◌, ◌++◌, map, length, drop, set, sym}
+use Rattle.std.proofs.Common.{refl, ap, ◌∙◌, inl, inr, append_assoc, arith, length-append, length-set, drop-cons, get_or-set_same, drop-set-lt, ne_eqb}
 use mathlib.Core.List.Memᴰ.{head as in_head}
 use mathlib.Core.List.Memᴰ.{tail as in_Tail}
 use mathlib.Core.List.{map-append}

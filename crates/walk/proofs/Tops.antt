@@ -1,7 +1,8 @@
 -- The top of the walk's stack, while the stack isn't empty: its entry is a pending cell's, and the cells that receive to that one can take
 -- its place. There is room for them, since all pending cells and all that is written are different cells of rule 8's order.
 -- Assumes nothing.
-use Rattle.std.proofs.Common.{◌≡◌, ℕ, suc, ◌+◌, ◌<◌, ◌≤◌, ◌⊎◌, List, [], ◌∷◌, ◌++◌, map, length, drop, sym, refl, ap, ◌∙◌, subst, inl, inr, append_assoc, zero-le, arith, length-append, drop-cons}
+use Rattle.std.proofs.Common.{◌≡◌, ℕ, suc, ◌+◌, ◌<◌, ◌≤◌, ◌⊎◌, List, [], ◌∷◌, ◌++◌, map, length, drop, sym, refl, ap, ◌∙◌, subst, inl, inr, append_assoc}
+use Rattle.std.proofs.Common.{zero-le, arith, length-append, drop-cons}
 use mathlib.Core.List.Memᴰ.{append_cases as in-append}
 use mathlib.Core.List.Memᴰ.{head as in_head}
 use mathlib.Core.List.Memᴰ.{tail as in_Tail}

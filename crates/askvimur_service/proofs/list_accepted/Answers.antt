@@ -28,8 +28,10 @@ record_lakes-found-requires c = record {
 
 pub write_found-requires : goal.write_found-requires
 write_found-requires c =
-    (too_deep_on (ground (goal.at.write_found-requires c).After-record_lakes-found), lakes_on (ground (goal.at.write_found-requires c).After-record_lakes-found), read_here (goal.at.write_found-requires c).After-record_lakes-found)
+    let at-place = (goal.at.write_found-requires c).After-record_lakes-found in
+    (too_deep_on (ground at-place), lakes_on (ground at-place), read_here at-place)
 
 pub returns : goal.returns
 returns c =
-    c.write_found.ensures (too_deep_on (ground (goal.at.returns c).After-record_lakes-found)) (lakes_on (ground (goal.at.returns c).After-record_lakes-found)) (read_here (goal.at.returns c).After-record_lakes-found)
+    let at-place = (goal.at.returns c).After-record_lakes-found in
+    c.write_found.ensures (too_deep_on (ground at-place)) (lakes_on (ground at-place)) (read_here at-place)

@@ -44,7 +44,8 @@ returns-in-Listed c =
     let a = c.args in
     λ deep ls R. record {
       answer = sym c.in-Listed.is ∙ judged-at (goal.at.returns-in-Listed c).After-judge_found-answer deep ls R;
-      lists = c.write_lakes.ensures ∙ ap (λ (z : List Lake). overwrite (lakes_bytes z) a.lakes.now) (lakes_found R (found-are (goal.at.returns-in-Listed c).In-Listed).0).are;
+      lists = c.write_lakes.ensures ∙ ap (λ (z : List Lake). overwrite (lakes_bytes z) a.lakes.now)
+          (lakes_found R (found-are (goal.at.returns-in-Listed c).In-Listed).0).are;
     }
 
 pub returns-in-Refused : goal.returns-in-Refused

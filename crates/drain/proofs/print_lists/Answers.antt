@@ -43,15 +43,17 @@ water-here c =
 
 pub write_tile-requires : goal.write_tile-requires
 write_tile-requires c =
+    let at-place = (goal.at.write_tile-requires c).After-read_section_u16 in
     let a = c.args in
     let net = c.requires.receivers_value in
-    printable (ground (goal.at.write_tile-requires c).After-read_section_u16) c.requires.readable.good (count (goal.at.write_tile-requires c).After-read_section_u16) (counted (goal.at.write_tile-requires c).After-read_section_u16) a.receivers.now a.levels.now a.drainage.now
-    (marks (goal.at.write_tile-requires c).After-read_section_u16) (water (goal.at.write_tile-requires c).After-read_section_u16) net.0 net.1 net.2 (marks-here (goal.at.write_tile-requires c).After-read_section_u16) (water-here (goal.at.write_tile-requires c).After-read_section_u16) c.requires.most_text_in_bounds
+    printable (ground at-place) c.requires.readable.good (count at-place) (counted at-place) a.receivers.now a.levels.now a.drainage.now
+    (marks at-place) (water at-place) net.0 net.1 net.2 (marks-here at-place) (water-here at-place) c.requires.most_text_in_bounds
 
 pub returns : goal.returns
 returns c =
+    let at-place = (goal.at.returns c).After-read_section_u16 in
     let a = c.args in
     let net = c.requires.receivers_value in
     printed_same c.write_tile.ensures
-    (text_is (ground (goal.at.returns c).After-read_section_u16) c.requires.readable.good (count (goal.at.returns c).After-read_section_u16) (counted (goal.at.returns c).After-read_section_u16) a.receivers.now a.levels.now a.drainage.now
-    (marks (goal.at.returns c).After-read_section_u16) (water (goal.at.returns c).After-read_section_u16) net.0 net.1 net.2 (marks-here (goal.at.returns c).After-read_section_u16) (water-here (goal.at.returns c).After-read_section_u16))
+    (text_is (ground at-place) c.requires.readable.good (count at-place) (counted at-place) a.receivers.now a.levels.now a.drainage.now
+    (marks at-place) (water at-place) net.0 net.1 net.2 (marks-here at-place) (water-here at-place))

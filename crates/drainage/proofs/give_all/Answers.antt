@@ -24,7 +24,8 @@ turn : (c : In-loop-place)
 turn c =
     let G = c.requires.by_index.2 in
     turn_fits c.requires.by_index.0 c.requires.by_index.1 c.args.n c.args.order.now c.args.receivers.now G c.args.drainage.now
-    c.loop-place.drainage c.loop-place.place (c.loop-place.invariant.2 c.requires.by_index.0 c.requires.by_index.1 G) c.loop-place-test.true c.loop-place.invariant.0
+    c.loop-place.drainage c.loop-place.place (c.loop-place.invariant.2 c.requires.by_index.0 c.requires.by_index.1 G) c.loop-place-test.true
+        c.loop-place.invariant.0
     c.requires.n_in_bounds.1
 
 -- all indices of a turn lie in their lists

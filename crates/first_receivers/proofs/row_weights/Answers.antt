@@ -102,7 +102,8 @@ returns-then-w-gt1 c =
     (a.up + (a.w - 1)) (a.b + (a.w - 1) - 1) (a.b + (a.w - 1)) (a.down + (a.w - 1)) (omega arith) (omega arith) (omega arith)
     (rw (e, lt-ltb 0 x (omega arith))) (rw (e, le-ltb (x + 1) a.w (omega arith))) in
     λ old room q. filled_put (weight a.neighbours a.w a.heights.now a.marks.now) (a.b + x) (a.b + a.w) old (omega (arith, R.fits))
-    (c.loop-x.invariant.3 old room (first-put (goal.at.returns-then-w-gt1 c).After-weight_of old room q)) (omega arith) (c.weight_of-then-w-gt1.ensures ∙ last) (omega arith)
+    (c.loop-x.invariant.3 old room (first-put (goal.at.returns-then-w-gt1 c).After-weight_of old room q)) (omega arith)
+        (c.weight_of-then-w-gt1.ensures ∙ last) (omega arith)
 
 pub shape_of-out-else-w-gt1 : goal.shape_of-out-else-w-gt1
 shape_of-out-else-w-gt1 c =

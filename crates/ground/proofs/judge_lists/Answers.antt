@@ -59,7 +59,8 @@ unfolding judge_lists
 returns-then-not-has_room c =
     let n = c.cells-n.ensures in
     let e = rw n at (sym c.has_room.ensures ∙ c.if-not-has_room.true) in
-    refused_room _ _ _ _ (size-held (goal.at.returns-then-not-has_room c).Else-not-size_allowed) (full-held (goal.at.returns-then-not-has_room c).Else-not-lists_full) refl e
+    refused_room _ _ _ _ (size-held (goal.at.returns-then-not-has_room c).Else-not-size_allowed)
+        (full-held (goal.at.returns-then-not-has_room c).Else-not-lists_full) refl e
 
 pub judge_cells_of_lists-requires : goal.judge_cells_of_lists-requires
 judge_cells_of_lists-requires c =
@@ -72,4 +73,5 @@ pub returns : goal.returns
 unfolding judge_lists
 returns c =
     let e = c.judge_cells_of_lists.ensures ∙ cells_decide (ground (goal.at.returns c).Start) in
-    judged_cells _ _ _ _ (size-held (goal.at.returns c).Else-not-size_allowed) (full-held (goal.at.returns c).Else-not-lists_full) refl (room_held (goal.at.returns c).Else-not-has_room) e
+    judged_cells _ _ _ _ (size-held (goal.at.returns c).Else-not-size_allowed) (full-held (goal.at.returns c).Else-not-lists_full) refl
+        (room_held (goal.at.returns c).Else-not-has_room) e

@@ -70,7 +70,8 @@ pub returns-then-not-distances_right : goal.returns-then-not-distances_right
 returns-then-not-distances_right c =
     let n = c.cells-n.ensures in
     let e = rw n at (sym c.distances_right.ensures ∙ c.if-not-distances_right.true) in
-    refused_distance _ _ _ _ (size-held (goal.at.returns-then-not-distances_right c).Else-not-size_allowed) (long-held (goal.at.returns-then-not-distances_right c).Else-bytes-n) e
+    refused_distance _ _ _ _ (size-held (goal.at.returns-then-not-distances_right c).Else-not-size_allowed)
+        (long-held (goal.at.returns-then-not-distances_right c).Else-bytes-n) e
 
 pub has_room-requires : goal.has_room-requires
 has_room-requires c = count_few (goal.at.has_room-requires c).After-cells-n
@@ -79,7 +80,8 @@ pub returns-then-not-has_room : goal.returns-then-not-has_room
 returns-then-not-has_room c =
     let n = c.cells-n.ensures in
     let e = rw n at (sym c.has_room.ensures ∙ c.if-not-has_room.true) in
-    refused_room _ _ _ _ (size-held (goal.at.returns-then-not-has_room c).Else-not-size_allowed) (long-held (goal.at.returns-then-not-has_room c).Else-bytes-n) (right-held (goal.at.returns-then-not-has_room c).Else-not-distances_right) e
+    refused_room _ _ _ _ (size-held (goal.at.returns-then-not-has_room c).Else-not-size_allowed)
+        (long-held (goal.at.returns-then-not-has_room c).Else-bytes-n) (right-held (goal.at.returns-then-not-has_room c).Else-not-distances_right) e
 
 pub judge_cells_of_record-requires : goal.judge_cells_of_record-requires
 judge_cells_of_record-requires c =
@@ -92,4 +94,5 @@ pub returns : goal.returns
 returns c =
     let allowed = size-held (goal.at.returns c).Else-not-size_allowed in
     let long = long-held (goal.at.returns c).Else-bytes-n in
-    judged_cells _ _ _ _ allowed long (right-held (goal.at.returns c).Else-not-distances_right) (room_held (goal.at.returns c).Else-not-has_room) c.judge_cells_of_record.ensures
+    judged_cells _ _ _ _ allowed long (right-held (goal.at.returns c).Else-not-distances_right) (room_held (goal.at.returns c).Else-not-has_room)
+        c.judge_cells_of_record.ensures

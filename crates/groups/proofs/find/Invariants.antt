@@ -13,7 +13,8 @@ use Rattle.groups.proofs.find.Given as goal
 
 abbrev pub invariant-loop-x : goal.invariant-loop-x
 invariant-loop-x l =
-    (length l.group ≡ length l.initial.group) × (l.x < length l.group) × SameGroups l.initial.group l.group × (root_of l.initial.group l.x ≡ root_of l.initial.group l.b)
+    (length l.group ≡ length l.initial.group) × (l.x < length l.group) × SameGroups l.initial.group l.group
+        × (root_of l.initial.group l.x ≡ root_of l.initial.group l.b)
 
 abbrev pub decreases-loop-x : goal.decreases-loop-x
 decreases-loop-x l = l.x

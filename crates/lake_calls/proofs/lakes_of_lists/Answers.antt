@@ -21,18 +21,21 @@ before c = let a = c.args in lake_lists a.levels.now a.counts.now a.volumes.now 
 
 pub list_accepted-requires : goal.list_accepted-requires
 list_accepted-requires c =
-    (c.args.water.now, (lists_accepted any_room (ground (goal.at.list_accepted-requires c).After-judge_lists-judged) (sym c.judge_lists-judged.ensures ∙ c.in-Accepted.is)).good)
+    (c.args.water.now, (lists_accepted any_room (ground (goal.at.list_accepted-requires c).After-judge_lists-judged)
+        (sym c.judge_lists-judged.ensures ∙ c.in-Accepted.is)).good)
 
 pub returns-in-Refused : goal.returns-in-Refused
 returns-in-Refused c =
-    let e : c.judge_lists-judged.result ≡ judge_lists any_room (ground (goal.at.returns-in-Refused c).After-judge_lists-judged) = c.judge_lists-judged.ensures in
-    record { answer = ap (λ j. judge_lakes j (ground (goal.at.returns-in-Refused c).After-judge_lists-judged) (shortest_lake_list (before (goal.at.returns-in-Refused c).After-judge_lists-judged))) (sym c.in-Refused.is ∙ e); lists = refl }
+    let at-place = (goal.at.returns-in-Refused c).After-judge_lists-judged in
+    let e : c.judge_lists-judged.result ≡ judge_lists any_room (ground at-place) = c.judge_lists-judged.ensures in
+    record { answer = ap (λ j. judge_lakes j (ground at-place) (shortest_lake_list (before at-place))) (sym c.in-Refused.is ∙ e); lists = refl }
 
 pub returns-in-Accepted : goal.returns-in-Accepted
 returns-in-Accepted c =
-    let A = c.list_accepted.ensures c.args.water.now (lists_accepted any_room (ground (goal.at.returns-in-Accepted c).After-judge_lists-judged) (sym c.judge_lists-judged.ensures ∙ c.in-Accepted.is)).good in
-    let e : judge_lists any_room (ground (goal.at.returns-in-Accepted c).After-judge_lists-judged) ≡ _ = sym c.judge_lists-judged.ensures ∙ c.in-Accepted.is in
+    let at-place = (goal.at.returns-in-Accepted c).After-judge_lists-judged in
+    let A = c.list_accepted.ensures c.args.water.now (lists_accepted any_room (ground at-place) (sym c.judge_lists-judged.ensures ∙ c.in-Accepted.is)).good in
+    let e : judge_lists any_room (ground at-place) ≡ _ = sym c.judge_lists-judged.ensures ∙ c.in-Accepted.is in
     record {
-      answer = A.answer ∙ ap (λ j. judge_lakes j (ground (goal.at.returns-in-Accepted c).After-judge_lists-judged) (shortest_lake_list (before (goal.at.returns-in-Accepted c).After-judge_lists-judged))) (sym e);
+      answer = A.answer ∙ ap (λ j. judge_lakes j (ground at-place) (shortest_lake_list (before at-place))) (sym e);
       lists = A.lists;
     }

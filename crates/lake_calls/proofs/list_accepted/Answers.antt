@@ -55,7 +55,8 @@ read_here c water G =
     let long = c.tile_lakes-found.auto.rows in
     found_read g G c.tile_lakes-found.new.rows (omega (arith, long, good_few g G))
     (subst Found (tile-is-land Four g G)
-    (subst (λ (l : List ℕ). Found (tile_land rule4 g.width l g.marks)) (heights_here (goal.at.After-tile_lakes-found c).After-lift_heights water G) c.tile_lakes-found.ensures))
+    (subst (λ (l : List ℕ). Found (tile_land rule4 g.width l g.marks)) (heights_here (goal.at.After-tile_lakes-found c).After-lift_heights water G)
+        c.tile_lakes-found.ensures))
 
 pub lift_heights-requires : goal.lift_heights-requires
 lift_heights-requires c =
@@ -70,14 +71,16 @@ slice_bounds-lifted-end c = heights-fit (goal.at.slice_bounds-lifted-end c).Afte
 
 pub slice_bounds-tile_lakes-end : goal.slice_bounds-tile_lakes-end
 slice_bounds-tile_lakes-end c =
-    sym (length-take-le (count (goal.at.slice_bounds-tile_lakes-end c).After-lift_heights) c.lift_heights.new.out (heights-fit (goal.at.slice_bounds-tile_lakes-end c).After-lift_heights))
+    let at-place = (goal.at.slice_bounds-tile_lakes-end c).After-lift_heights in
+    sym (length-take-le (count at-place) c.lift_heights.new.out (heights-fit at-place))
 
 pub tile_lakes-found-requires : goal.tile_lakes-found-requires
 tile_lakes-found-requires c =
+    let at-place = (goal.at.tile_lakes-found-requires c).After-lift_heights in
     let w = c.requires in
-    let g = groundWith (goal.at.tile_lakes-found-requires c).After-lift_heights w.0 in
-    let t = heights_here (goal.at.tile_lakes-found-requires c).After-lift_heights w.0 w.1 in
-    let m : length (take (count (goal.at.tile_lakes-found-requires c).After-lift_heights) c.lift_heights.new.out) ≡ cells_of g = ap length t ∙ lifted_full g w.1 in record {
+    let g = groundWith at-place w.0 in
+    let t = heights_here at-place w.0 w.1 in
+    let m : length (take (count at-place) c.lift_heights.new.out) ≡ cells_of g = ap length t ∙ lifted_full g w.1 in record {
       lawful_tile = subst (λ (l : List ℕ). LawfulTile rule4 g.width l g.marks) (sym t) (good_tile g w.1 Four);
       heights_in_bounds = omega (arith, m, good_few g w.1);
     }

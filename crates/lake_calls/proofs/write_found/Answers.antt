@@ -46,9 +46,11 @@ write_lists-requires c =
 
 pub returns-in-Listed : goal.returns-in-Listed
 returns-in-Listed c =
+    let at-place = (goal.at.returns-in-Listed c).After-judge_found-answer in
     λ deep ls R. record {
-      answer = sym c.in-Listed.is ∙ judged-at (goal.at.returns-in-Listed c).After-judge_found-answer deep ls R;
-      lists = c.write_lists.ensures ∙ ap (λ (z : List Lake). lakes_onto z (before (goal.at.returns-in-Listed c).After-judge_found-answer)) (lakes_found R (found-are (goal.at.returns-in-Listed c).In-Listed).0).are;
+      answer = sym c.in-Listed.is ∙ judged-at at-place deep ls R;
+      lists = c.write_lists.ensures ∙ ap (λ (z : List Lake). lakes_onto z (before at-place))
+          (lakes_found R (found-are (goal.at.returns-in-Listed c).In-Listed).0).are;
     }
 
 pub returns-in-Refused : goal.returns-in-Refused

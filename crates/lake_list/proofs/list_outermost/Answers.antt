@@ -145,7 +145,8 @@ loop-x-preserved c =
     )
 
 pub overflow_cast-result : goal.overflow_cast-result
-overflow_cast-result c = let n = next_small c.args.levels.now c.requires.noted_lakes c.args.rows.now (c.loop-x.invariant.2 c.requires.noted_lakes) c.requires.room.0 in
+overflow_cast-result c = let n = next_small c.args.levels.now c.requires.noted_lakes c.args.rows.now (c.loop-x.invariant.2 c.requires.noted_lakes)
+    c.requires.room.0 in
     omega arith
 
 pub returns : goal.returns

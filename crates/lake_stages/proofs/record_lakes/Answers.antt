@@ -51,21 +51,26 @@ lift_record-requires c =
     (omega arith, omega arith, in_range-at a.bytes.now a.width a.height R.good c.cells-n.result z)
 
 pub slice_bounds-tile_lakes-end : goal.slice_bounds-tile_lakes-end
-slice_bounds-tile_lakes-end c = counted (goal.at.slice_bounds-tile_lakes-end c).After-lift_record ∙ sym (heights-long (goal.at.slice_bounds-tile_lakes-end c).After-lift_record)
+slice_bounds-tile_lakes-end c =
+    let at-place = (goal.at.slice_bounds-tile_lakes-end c).After-lift_record in
+    counted at-place ∙ sym (heights-long at-place)
 
 pub tile_lakes-requires : goal.tile_lakes-requires
 tile_lakes-requires c =
+    let at-place = (goal.at.tile_lakes-requires c).After-lift_record in
     let a = c.args in
-    let long = heights-long (goal.at.tile_lakes-requires c).After-lift_record in
+    let long = heights-long at-place in
     let room = c.requires.width_in_bounds in record {
-      lawful_tile = read_tile Four a.bytes.now a.width a.height c.requires.readable.good (count (goal.at.tile_lakes-requires c).After-lift_record) (counted (goal.at.tile_lakes-requires c).After-lift_record) (heights (goal.at.tile_lakes-requires c).After-lift_record) (heights_read (goal.at.tile_lakes-requires c).After-lift_record);
+      lawful_tile = read_tile Four a.bytes.now a.width a.height c.requires.readable.good (count at-place) (counted at-place) (heights at-place)
+          (heights_read at-place);
       heights_in_bounds = omega (arith, long, room);
     }
 
 pub returns : goal.returns
 unfolding levels_on lifted_network_in
 returns c =
+    let at-place = (goal.at.returns c).After-lift_record in
     let a = c.args in
     subst (λ (L : Land). FoundIn L (levels_on L) c.tile_lakes.result c.tile_lakes.new.rows)
-    (read_land Four a.bytes.now a.width a.height c.requires.readable.good (count (goal.at.returns c).After-lift_record) (counted (goal.at.returns c).After-lift_record) (heights (goal.at.returns c).After-lift_record) (heights_read (goal.at.returns c).After-lift_record))
+    (read_land Four a.bytes.now a.width a.height c.requires.readable.good (count at-place) (counted at-place) (heights at-place) (heights_read at-place))
     c.tile_lakes.ensures

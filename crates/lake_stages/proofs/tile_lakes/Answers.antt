@@ -36,19 +36,21 @@ slice_bounds-list_lakes-end c =
 
 pub list_lakes-requires : goal.list_lakes-requires
 list_lakes-requires c =
+    let at-place = (goal.at.list_lakes-requires c).After-find_levels in
     let a = c.args in
-    let e = sym (levels-here (goal.at.list_lakes-requires c).After-find_levels) in record {
+    let e = sym (levels-here at-place) in record {
       levelled = subst (Levelled a.w a.heights.now) e (tile_levelled a.w a.heights.now a.marks.now c.requires.lawful_tile);
       heights_in_bounds = (
         c.requires.heights_in_bounds,
-        (a.marks.now, subst (Local (land (goal.at.list_lakes-requires c).After-find_levels)) e (tile_local a.w a.heights.now a.marks.now c.requires.lawful_tile)),
+        (a.marks.now, subst (Local (land at-place)) e (tile_local a.w a.heights.now a.marks.now c.requires.lawful_tile)),
       );
     }
 
 pub returns : goal.returns
 returns c =
+    let at-place = (goal.at.returns c).After-find_levels in
     let a = c.args in
-    let e = levels-here (goal.at.returns c).After-find_levels in
-    let K = subst (Local (land (goal.at.returns c).After-find_levels)) (sym e) (tile_local a.w a.heights.now a.marks.now c.requires.lawful_tile) in
-    subst (λ (l : List ℕ). FoundIn (land (goal.at.returns c).After-find_levels) l c.list_lakes.result c.list_lakes.new.rows) e
+    let e = levels-here at-place in
+    let K = subst (Local (land at-place)) (sym e) (tile_local a.w a.heights.now a.marks.now c.requires.lawful_tile) in
+    subst (λ (l : List ℕ). FoundIn (land at-place) l c.list_lakes.result c.list_lakes.new.rows) e
     (c.list_lakes.ensures a.marks.now K)

@@ -44,8 +44,10 @@ write_lakes-requires c =
 
 pub returns-in-Lakes : goal.returns-in-Lakes
 returns-in-Lakes c =
-    printed_same c.write_lakes.ensures (listed_text (ground (goal.at.returns-in-Lakes c).After-record_lakes-found) (read_here (goal.at.returns-in-Lakes c).After-record_lakes-found) c.in-Lakes.is)
+    let at-place = (goal.at.returns-in-Lakes c).After-record_lakes-found in
+    printed_same c.write_lakes.ensures (listed_text (ground at-place) (read_here at-place) c.in-Lakes.is)
 
 pub returns-in-TooDeep : goal.returns-in-TooDeep
 returns-in-TooDeep c =
-    printed_same c.write_refused.ensures (deep_text (ground (goal.at.returns-in-TooDeep c).After-record_lakes-found) (read_here (goal.at.returns-in-TooDeep c).After-record_lakes-found) c.in-TooDeep.is)
+    let at-place = (goal.at.returns-in-TooDeep c).After-record_lakes-found in
+    printed_same c.write_refused.ensures (deep_text (ground at-place) (read_here at-place) c.in-TooDeep.is)

@@ -36,7 +36,8 @@ own_room own =
 
 rows_room : (rows : After-add_both) → Fits (after-rows (goal.at.After-add_both rows).Start) rows.args.n rows.add_both.new.links
 rows_room rows =
-    fits_second (in_rows (goal.at.After-add_both rows).Start) (after-rows (goal.at.After-add_both rows).Start) (own_room (goal.at.After-add_both rows).After-own_weights) rows.add_both.ensures
+    fits_second (in_rows (goal.at.After-add_both rows).Start) (after-rows (goal.at.After-add_both rows).Start)
+        (own_room (goal.at.After-add_both rows).After-own_weights) rows.add_both.ensures
 
 -- what is there once the corners are added, too
 all-linked : {new : List ℕ} (columns : After-add_both-2) → let a = columns.args in
@@ -49,7 +50,8 @@ all-linked {new} columns f K A =
 
 pub add_both-requires : goal.add_both-requires
 add_both-requires c =
-    let fits = fits_first (in_rows (goal.at.add_both-requires c).Start) (after-rows (goal.at.add_both-requires c).Start) c.own_weights.new.links (own_room (goal.at.add_both-requires c).After-own_weights) in
+    let at-place = (goal.at.add_both-requires c).Start in
+    let fits = fits_first (in_rows at-place) (after-rows at-place) c.own_weights.new.links (own_room (goal.at.add_both-requires c).After-own_weights) in
     record {
       step_bound = (search rules, search rules, search rules, search rules);
       fits = fits;
@@ -57,7 +59,8 @@ add_both-requires c =
 
 pub add_both-requires-2 : goal.add_both-requires-2
 add_both-requires-2 c =
-    let fits = fits_first (in-columns (goal.at.add_both-requires-2 c).Start) (at-corners (goal.at.add_both-requires-2 c).Start) c.add_both.new.links (rows_room (goal.at.add_both-requires-2 c).After-add_both) in
+    let at-place = (goal.at.add_both-requires-2 c).Start in
+    let fits = fits_first (in-columns at-place) (at-corners at-place) c.add_both.new.links (rows_room (goal.at.add_both-requires-2 c).After-add_both) in
     record {
       step_bound = (search rules, search rules, search rules, search rules);
       fits = fits;
@@ -65,7 +68,8 @@ add_both-requires-2 c =
 
 pub add_corners-requires : goal.add_corners-requires
 add_corners-requires c =
-    let fits = fits_second (in-columns (goal.at.add_corners-requires c).Start) (at-corners (goal.at.add_corners-requires c).Start) (rows_room (goal.at.add_corners-requires c).After-add_both) c.add_both-2.ensures in
+    let at-place = (goal.at.add_corners-requires c).Start in
+    let fits = fits_second (in-columns at-place) (at-corners at-place) (rows_room (goal.at.add_corners-requires c).After-add_both) c.add_both-2.ensures in
     record {
       w_nonzero = (search rules, search rules, search rules, search rules, search rules);
       fits = fits;

@@ -19,7 +19,8 @@ abbrev pub invariant-loop-i : goal.invariant-loop-i
 invariant-loop-i l =
     (l.i ≤ length l.pairs)
     × (length l.links ≡ length l.initial.links)
-    × ((n : ℕ) → (E : ℕ → ℕ → Bool) → Addable l.w n E l.pairs l.initial.links → l.links ≡ filled (mask_of around l.w n (with_pairs l.w (take l.i l.pairs) E)) n l.initial.links)
+    × ((n : ℕ) → (E : ℕ → ℕ → Bool) → Addable l.w n E l.pairs l.initial.links → l.links ≡ filled
+        (mask_of around l.w n (with_pairs l.w (take l.i l.pairs) E)) n l.initial.links)
 
 abbrev pub decreases-loop-i : goal.decreases-loop-i
 decreases-loop-i l = length l.pairs - l.i

@@ -38,4 +38,5 @@ walk_links-requires c =
 
 pub returns : goal.returns
 returns c =
-    tile_walked c.requires.carved.0.tile (linked (goal.at.returns c).After-link_sheet) c.requires.lent_holds (c.walk_links.ensures (receivers_by Sheet (land (goal.at.returns c).After-link_sheet)) (linked (goal.at.returns c).After-link_sheet))
+    let at-place = (goal.at.returns c).After-link_sheet in
+    tile_walked c.requires.carved.0.tile (linked at-place) c.requires.lent_holds (c.walk_links.ensures (receivers_by Sheet (land at-place)) (linked at-place))

@@ -64,12 +64,14 @@ worked c =
 
 levels-here : (c : After-work_out)
     → let a = c.args in
-    take (count (goal.at.After-work_out c).After-lift_heights) (after c).levels ≡ (lifted_network_by a.neighbours a.manner (ground (goal.at.After-work_out c).After-lift_heights)).levels
+    take (count (goal.at.After-work_out c).After-lift_heights) (after c).levels ≡
+        (lifted_network_by a.neighbours a.manner (ground (goal.at.After-work_out c).After-lift_heights)).levels
 levels-here c =
     let a = c.args in
     let net = lifted_network_by a.neighbours a.manner (ground (goal.at.After-work_out c).After-lift_heights) in
     let full =
-    subst (λ (k : ℕ). Full k net) (sym (counted (goal.at.After-work_out c).After-lift_heights)) (network_full a.neighbours a.manner (ground (goal.at.After-work_out c).After-lift_heights) (good (goal.at.After-work_out c).After-lift_heights)) in
+    subst (λ (k : ℕ). Full k net) (sym (counted (goal.at.After-work_out c).After-lift_heights))
+        (network_full a.neighbours a.manner (ground (goal.at.After-work_out c).After-lift_heights) (good (goal.at.After-work_out c).After-lift_heights)) in
     ap (λ (s : Network ℕ). s.levels) (first_of_onto (count (goal.at.After-work_out c).After-lift_heights) net (before c) full (worked c))
 
 pub lift_heights-requires : goal.lift_heights-requires
@@ -84,14 +86,16 @@ slice_bounds-lifted-end c = heights-fit (goal.at.slice_bounds-lifted-end c).Afte
 
 pub slice_bounds-work_out-end : goal.slice_bounds-work_out-end
 slice_bounds-work_out-end c =
-    sym (length-take-le (count (goal.at.slice_bounds-work_out-end c).After-lift_heights) c.lift_heights.new.out (heights-fit (goal.at.slice_bounds-work_out-end c).After-lift_heights))
+    let at-place = (goal.at.slice_bounds-work_out-end c).After-lift_heights in
+    sym (length-take-le (count at-place) c.lift_heights.new.out (heights-fit at-place))
 
 pub work_out-requires : goal.work_out-requires
 work_out-requires c =
-    let g = ground (goal.at.work_out-requires c).After-lift_heights in
-    let G = good (goal.at.work_out-requires c).After-lift_heights in
-    let t = heights_here (goal.at.work_out-requires c).After-lift_heights in
-    let m : length (take (count (goal.at.work_out-requires c).After-lift_heights) c.lift_heights.new.out) ≡ cells_of g = ap length t ∙ lifted_full g G in
+    let at-place = (goal.at.work_out-requires c).After-lift_heights in
+    let g = ground at-place in
+    let G = good at-place in
+    let t = heights_here at-place in
+    let m : length (take (count at-place) c.lift_heights.new.out) ≡ cells_of g = ap length t ∙ lifted_full g G in
     let H = c.requires.1 in record {
       lawful_tile = (
         subst (λ (l : List ℕ). LawfulTile (rule_by c.args.neighbours) g.width l g.marks) (sym t)
@@ -110,12 +114,17 @@ work_out-requires c =
 
 pub drop_levels-requires : goal.drop_levels-requires
 drop_levels-requires c =
-    let f : count (goal.at.drop_levels-requires c).After-lift_heights ≤ length (after (goal.at.drop_levels-requires c).After-work_out).levels = omega (arith, few (goal.at.drop_levels-requires c).After-lift_heights, c.work_out.auto.levels) in
-    let droppable = levels_droppable c.args.neighbours c.args.manner (ground (goal.at.drop_levels-requires c).After-lift_heights) (good (goal.at.drop_levels-requires c).After-lift_heights) (levels-here (goal.at.drop_levels-requires c).After-work_out) in
-    (f, omega (arith, counted (goal.at.drop_levels-requires c).After-lift_heights, c.requires.1), droppable)
+    let at-place = (goal.at.drop_levels-requires c).After-lift_heights in
+    let at-place-2 = (goal.at.drop_levels-requires c).After-lift_heights, in
+    let f : count at-place ≤ length (after (goal.at.drop_levels-requires c).After-work_out).levels = omega (arith, few at-place, c.work_out.auto.levels) in
+    let droppable = levels_droppable c.args.neighbours c.args.manner (ground at-place) (good at-place)
+        (levels-here (goal.at.drop_levels-requires c).After-work_out) in
+    (f, omega (arith, counted at-place, c.requires.1), droppable)
 
 pub returns : goal.returns
 returns c =
+    let at-place = (goal.at.returns c).After-lift_heights in
+    let at-place-2 = (goal.at.returns c).After-work_out in
     let levels = c.args.levels.now in
-    network-written c.args.neighbours c.args.manner (ground (goal.at.returns c).After-lift_heights) (good (goal.at.returns c).After-lift_heights) (before (goal.at.returns c).After-work_out) levels (worked (goal.at.returns c).After-work_out)
-    (c.drop_levels.ensures ∙ ap (λ (l : List ℕ). overwrite (map dropped l) levels) (levels-here (goal.at.returns c).After-work_out))
+    network-written c.args.neighbours c.args.manner (ground at-place) (good at-place) (before at-place-2) levels (worked at-place-2)
+    (c.drop_levels.ensures ∙ ap (λ (l : List ℕ). overwrite (map dropped l) levels) (levels-here at-place-2))

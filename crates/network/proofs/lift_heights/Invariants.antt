@@ -19,7 +19,8 @@ use Rattle.network.proofs.lift_heights.Given as goal
 
 abbrev pub invariant-loop-i : goal.invariant-loop-i
 invariant-loop-i l =
-    (l.i-end ≡ length l.heights) × (l.i ≤ length l.heights) × (length l.out ≡ length l.initial.out) × (l.out ≡ map lifted (take l.i l.heights) ++ drop l.i l.initial.out)
+    (l.i-end ≡ length l.heights) × (l.i ≤ length l.heights) × (length l.out ≡ length l.initial.out)
+        × (l.out ≡ map lifted (take l.i l.heights) ++ drop l.i l.initial.out)
 
 abbrev pub decreases-loop-i : goal.decreases-loop-i
 decreases-loop-i l = length l.heights - l.i

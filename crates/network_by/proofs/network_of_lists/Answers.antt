@@ -25,18 +25,24 @@ before c =
 
 pub returns-in-NoCount : goal.returns-in-NoCount
 returns-in-NoCount c =
+    let at-place = (goal.at.returns-in-NoCount c).After-asked_for-asked in
     let a = c.args in
-    count_refused a.count a.manner (judge_lists (network_holds (before (goal.at.returns-in-NoCount c).After-asked_for-asked)) (ground (goal.at.returns-in-NoCount c).After-asked_for-asked)) (λ N M j. left j (network_by N M (ground (goal.at.returns-in-NoCount c).After-asked_for-asked)) (before (goal.at.returns-in-NoCount c).After-asked_for-asked))
-    (before (goal.at.returns-in-NoCount c).After-asked_for-asked) (sym c.in-NoCount.is ∙ c.asked_for-asked.ensures)
+    count_refused a.count a.manner (judge_lists (network_holds (before at-place)) (ground at-place))
+        (λ N M j. left j (network_by N M (ground at-place)) (before at-place))
+    (before at-place) (sym c.in-NoCount.is ∙ c.asked_for-asked.ensures)
 
 pub returns-in-NoManner : goal.returns-in-NoManner
 returns-in-NoManner c =
+    let at-place = (goal.at.returns-in-NoManner c).After-asked_for-asked in
     let a = c.args in
-    manner_refused a.count a.manner (judge_lists (network_holds (before (goal.at.returns-in-NoManner c).After-asked_for-asked)) (ground (goal.at.returns-in-NoManner c).After-asked_for-asked)) (λ N M j. left j (network_by N M (ground (goal.at.returns-in-NoManner c).After-asked_for-asked)) (before (goal.at.returns-in-NoManner c).After-asked_for-asked))
-    (before (goal.at.returns-in-NoManner c).After-asked_for-asked) (sym c.in-NoManner.is ∙ c.asked_for-asked.ensures)
+    manner_refused a.count a.manner (judge_lists (network_holds (before at-place)) (ground at-place))
+        (λ N M j. left j (network_by N M (ground at-place)) (before at-place))
+    (before at-place) (sym c.in-NoManner.is ∙ c.asked_for-asked.ensures)
 
 pub returns-in-For : goal.returns-in-For
 returns-in-For c =
+    let at-place = (goal.at.returns-in-For c).After-asked_for-asked in
     let a = c.args in
-    asked-taken a.count a.manner (judge_lists (network_holds (before (goal.at.returns-in-For c).After-asked_for-asked)) (ground (goal.at.returns-in-For c).After-asked_for-asked)) (λ N M j. left j (network_by N M (ground (goal.at.returns-in-For c).After-asked_for-asked)) (before (goal.at.returns-in-For c).After-asked_for-asked))
-    (before (goal.at.returns-in-For c).After-asked_for-asked) c.in-For.neighbours c.in-For.named (sym c.in-For.is ∙ c.asked_for-asked.ensures) c.network_over.ensures
+    asked-taken a.count a.manner (judge_lists (network_holds (before at-place)) (ground at-place))
+        (λ N M j. left j (network_by N M (ground at-place)) (before at-place))
+    (before at-place) c.in-For.neighbours c.in-For.named (sym c.in-For.is ∙ c.asked_for-asked.ensures) c.network_over.ensures

@@ -14,7 +14,8 @@ use Rattle.network_bytes.proofs.fill_levels.Given as goal
 
 abbrev pub invariant-loop-i : goal.invariant-loop-i
 invariant-loop-i l =
-    (l.i-end ≡ length l.levels) × (l.i ≤ length l.levels) × (length l.part ≡ length l.initial.part) × (l.part ≡ section_filled 4 (map dropped_bits l.levels) l.initial.part l.i)
+    (l.i-end ≡ length l.levels) × (l.i ≤ length l.levels) × (length l.part ≡ length l.initial.part)
+        × (l.part ≡ section_filled 4 (map dropped_bits l.levels) l.initial.part l.i)
 
 abbrev pub decreases-loop-i : goal.decreases-loop-i
 decreases-loop-i l = length l.levels - l.i

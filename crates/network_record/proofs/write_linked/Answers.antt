@@ -51,10 +51,12 @@ walk_record-requires c =
 
 pub write_network-requires : goal.write_network-requires
 write_network-requires c =
-    writable c.args.neighbours c.args.manner (ground (goal.at.write_network-requires c).After-walk_record) c.requires.readable.good (lists (goal.at.write_network-requires c).After-walk_record) (network-here (goal.at.write_network-requires c).After-walk_record)
+    let at-place = (goal.at.write_network-requires c).After-walk_record in
+    writable c.args.neighbours c.args.manner (ground at-place) c.requires.readable.good (lists at-place) (network-here at-place)
     c.args.network.now c.requires.width_in_bounds
 
 pub returns : goal.returns
 returns c =
-    record_written c.args.neighbours c.args.manner (ground (goal.at.returns c).After-walk_record) c.requires.readable.good (lists (goal.at.returns c).After-walk_record) (network-here (goal.at.returns c).After-walk_record) c.args.network.now
+    let at-place = (goal.at.returns c).After-walk_record in
+    record_written c.args.neighbours c.args.manner (ground at-place) c.requires.readable.good (lists at-place) (network-here at-place) c.args.network.now
     c.write_network.ensures

@@ -45,31 +45,35 @@ lift_record-requires c =
     (omega arith, omega arith, in_range-at a.bytes.now a.width a.height R.good c.cells-n.result z)
 
 pub slice_bounds-link_cells-end-2 : goal.slice_bounds-link_cells-end-2
-slice_bounds-link_cells-end-2 c = counted (goal.at.slice_bounds-link_cells-end-2 c).After-lift_record ∙ sym (heights-long (goal.at.slice_bounds-link_cells-end-2 c).After-lift_record)
+slice_bounds-link_cells-end-2 c =
+    let at-place = (goal.at.slice_bounds-link_cells-end-2 c).After-lift_record in
+    counted at-place ∙ sym (heights-long at-place)
 
 pub link_cells-requires : goal.link_cells-requires
 link_cells-requires c =
+    let at-place = (goal.at.link_cells-requires c).After-lift_record in
     let a = c.args in
     let s = a.bytes.now in
     let G = c.requires.readable.good in
-    let n = count (goal.at.link_cells-requires c).After-lift_record in
-    let z = counted (goal.at.link_cells-requires c).After-lift_record in
-    let long = heights-long (goal.at.link_cells-requires c).After-lift_record in
+    let n = count at-place in
+    let z = counted at-place in
+    let long = heights-long at-place in
     let room = c.requires.width_in_bounds in record {
-      lawful_tile = read_tile a.neighbours s a.width a.height G n z (heights (goal.at.link_cells-requires c).After-lift_record) (heights_read (goal.at.link_cells-requires c).After-lift_record);
+      lawful_tile = read_tile a.neighbours s a.width a.height G n z (heights at-place) (heights_read at-place);
       heights_in_bounds = (omega (arith, long, room.1), room.2);
     }
 
 pub returns : goal.returns
 returns c =
+    let at-place = (goal.at.returns c).After-lift_record in
     let a = c.args in
     let s = a.bytes.now in
     let G = c.requires.readable.good in
-    let n = count (goal.at.returns c).After-lift_record in
-    let z = counted (goal.at.returns c).After-lift_record in
-    let t = heights_read (goal.at.returns c).After-lift_record in
+    let n = count at-place in
+    let z = counted at-place in
+    let t = heights_read at-place in
     let found = c.link_cells.ensures in
     record {
-      linked = linked_record a.neighbours s a.width a.height G n z (heights (goal.at.returns c).After-lift_record) t found.links_are;
-      basins_are = read_basins a.neighbours s a.width a.height G n z (heights (goal.at.returns c).After-lift_record) t a.basins.now found.basins_are;
+      linked = linked_record a.neighbours s a.width a.height G n z (heights at-place) t found.links_are;
+      basins_are = read_basins a.neighbours s a.width a.height G n z (heights at-place) t a.basins.now found.basins_are;
     }

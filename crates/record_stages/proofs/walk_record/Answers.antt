@@ -71,7 +71,8 @@ after c =
 
 -- what the walk left is what drainage asks for
 drainable : (c : After-walk_by)
-    → Ordered (tile (goal.at.After-walk_by c).After-cells-n) (receivers_by c.args.manner (tile (goal.at.After-walk_by c).After-cells-n)) c.cells-n.result (after c).order (after c).receivers
+    → Ordered (tile (goal.at.After-walk_by c).After-cells-n) (receivers_by c.args.manner (tile (goal.at.After-walk_by c).After-cells-n)) c.cells-n.result
+        (after c).order (after c).receivers
 drainable c =
     ordered (tile-is (goal.at.After-walk_by c).After-cells-n) c.args.manner c.walk_by.ensures c.cells-n.result
     (c.cells-n.ensures ∙ sym (heights_full (goal.at.After-walk_by c).After-cells-n))
@@ -91,24 +92,26 @@ pub drain_section-requires : goal.drain_section-requires
 drain_section-requires c =
     let z = c.cells-n.ensures in
     let k : length (after (goal.at.drain_section-requires c).After-walk_by).stack ≡ length c.args.drainage.now = c.walk_by.auto.stack in record {
-      by_index = (tile (goal.at.drain_section-requires c).After-cells-n, receivers_by c.args.manner (tile (goal.at.drain_section-requires c).After-cells-n), drainable (goal.at.drain_section-requires c).After-walk_by);
+      by_index = (tile (goal.at.drain_section-requires c).After-cells-n, receivers_by c.args.manner (tile (goal.at.drain_section-requires c).After-cells-n),
+          drainable (goal.at.drain_section-requires c).After-walk_by);
       n_in_bounds = (omega (arith, z, c.requires.readable.long), omega (arith, z, c.requires.lent_holds.fits_stack, k));
     }
 
 -- of basins nothing is said, so that any list of them will do
 pub returns : goal.returns
 returns c =
+    let at-place = (goal.at.returns c).After-cells-n in
     let a = c.args in
     let s = a.bytes.now in
     let n = c.cells-n.result in
     let z = c.cells-n.ensures in
-    let L = tile (goal.at.returns c).After-cells-n in
+    let L = tile at-place in
     let lists = six_lists a.receivers.now [] a.order.now a.levels.now a.drainage.now a.wet.now in
     let e =
-    worked (tile-is (goal.at.returns c).After-cells-n) a.manner c.walk_by.ensures [] (numbers_at 2 s (5 * n) n) n
-    (z ∙ sym (heights_full (goal.at.returns c).After-cells-n)) refl (c.drain_section.ensures L (receivers_by a.manner L) (drainable (goal.at.returns c).After-walk_by))
+    worked (tile-is at-place) a.manner c.walk_by.ensures [] (numbers_at 2 s (5 * n) n) n
+    (z ∙ sym (heights_full at-place)) refl (c.drain_section.ensures L (receivers_by a.manner L) (drainable (goal.at.returns c).After-walk_by))
     ∙ ap (λ (net : Network ℕ). onto net lists)
-    (read_network a.neighbours s a.width a.height c.requires.readable.good n z a.lifted.now (heights_are (goal.at.returns c).After-cells-n) a.manner) in
+    (read_network a.neighbours s a.width a.height c.requires.readable.good n z a.lifted.now (heights_are at-place) a.manner) in
     let receivers = ap (λ (t : Network ℕ). t.receivers) e in
     let order = ap (λ (t : Network ℕ). t.order) e in
     let levels = ap (λ (t : Network ℕ). t.levels) e in

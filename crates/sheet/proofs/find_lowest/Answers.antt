@@ -24,7 +24,8 @@ slice_bounds-lowest_weights-end c = sym (masks_length (laid (goal.at.slice_bound
 
 pub lowest_weights-requires : goal.lowest_weights-requires
 lowest_weights-requires c =
-    (levelled (laid (goal.at.lowest_weights-requires c).After-copy_levels), omega (arith, masks_length (laid (goal.at.lowest_weights-requires c).After-copy_levels), c.requires.1))
+    let at-place = (goal.at.lowest_weights-requires c).After-copy_levels in
+    (levelled (laid at-place), omega (arith, masks_length (laid at-place), c.requires.1))
 
 pub slice_bounds-like_masks-end : goal.slice_bounds-like_masks-end
 slice_bounds-like_masks-end c = sym (masks_length (laid (goal.at.slice_bounds-like_masks-end c).After-copy_levels))
@@ -39,4 +40,5 @@ like_masks-requires c =
 
 pub returns : goal.returns
 returns c =
-    (lowest_are (laid (goal.at.returns c).After-copy_levels) _ c.lowest_weights.ensures, likes_are (laid (goal.at.returns c).After-copy_levels) _ c.like_masks.ensures)
+    let at-place = (goal.at.returns c).After-copy_levels in
+    (lowest_are (laid at-place) _ c.lowest_weights.ensures, likes_are (laid at-place) _ c.like_masks.ensures)

@@ -53,8 +53,9 @@ link_leads-requires c =
 
 pub returns : goal.returns
 returns c =
+    let at-place = (goal.at.returns c).After-sheet_weights in
     λ heights K.
     let few = (carved-tile K).grid.few in
-    let links = lent-links (goal.at.returns c).After-sheet_weights in
-    margin links (lent_length (goal.at.returns c).After-sheet_weights) c.link_leads.auto.links
-    (linkage K (take 4096 (drop 65 links)) (search rules) (c.link_leads.ensures _ (leads (goal.at.returns c).After-sheet_weights heights K)))
+    let links = lent-links at-place in
+    margin links (lent_length at-place) c.link_leads.auto.links
+    (linkage K (take 4096 (drop 65 links)) (search rules) (c.link_leads.ensures _ (leads at-place heights K)))

@@ -30,6 +30,7 @@ spread-requires c =
 
 pub returns : goal.returns
 returns c =
+    let at-place = (goal.at.returns c).After-first_counts in
     λ levels K.
-    let are = counted K (replicate 4226 0) (room (goal.at.returns c).After-first_counts levels K) c.first_counts.ensures (c.spread.ensures (level K) (spreads (goal.at.returns c).After-first_counts levels K)) in
+    let are = counted K (replicate 4226 0) (room at-place levels K) c.first_counts.ensures (c.spread.ensures (level K) (spreads at-place levels K)) in
     leads-filled K c.spread.new.counts are c.args.weights.now c.step_weights.ensures

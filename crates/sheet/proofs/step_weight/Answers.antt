@@ -14,24 +14,26 @@ less c =
 pub returns-in-Four : goal.returns-in-Four
 unfolding step_weight
 returns-in-Four c =
+    let at-place = (goal.at.returns-in-Four c).After-wrapping_sub_u16-less in
     let a = c.args in
     rw c.in-Four.is
-    (tried (less (goal.at.returns-in-Four c).After-wrapping_sub_u16-less) 1 (3 ∷ 5 ∷ 7 ∷ []) c.first_of.ensures refl refl
-    (tried (less (goal.at.returns-in-Four c).After-wrapping_sub_u16-less) 3 (5 ∷ 7 ∷ []) c.first_of-left.ensures refl refl
-    (tried (less (goal.at.returns-in-Four c).After-wrapping_sub_u16-less) 5 (7 ∷ []) c.first_of-right.ensures refl refl
-    (tried (less (goal.at.returns-in-Four c).After-wrapping_sub_u16-less) 7 [] c.first_of-below.ensures refl refl refl))))
+    (tried (less at-place) 1 (3 ∷ 5 ∷ 7 ∷ []) c.first_of.ensures refl refl
+    (tried (less at-place) 3 (5 ∷ 7 ∷ []) c.first_of-left.ensures refl refl
+    (tried (less at-place) 5 (7 ∷ []) c.first_of-right.ensures refl refl
+    (tried (less at-place) 7 [] c.first_of-below.ensures refl refl refl))))
 
 pub returns-in-Eight : goal.returns-in-Eight
 unfolding step_weight
 returns-in-Eight c =
+    let at-place = (goal.at.returns-in-Eight c).After-wrapping_sub_u16-less in
     let a = c.args in
     let lowest : a.mask % 2 ≡ a.mask / 1 % 2 = omega arith in
     rw c.in-Eight.is
-    (tried (less (goal.at.returns-in-Eight c).After-wrapping_sub_u16-less) 0 (1 ∷ 2 ∷ 3 ∷ 5 ∷ 6 ∷ 7 ∷ 8 ∷ []) c.first_of-in-Eight.ensures lowest refl
-    (tried (less (goal.at.returns-in-Eight c).After-wrapping_sub_u16-less) 1 (2 ∷ 3 ∷ 5 ∷ 6 ∷ 7 ∷ 8 ∷ []) c.first_of-above.ensures refl refl
-    (tried (less (goal.at.returns-in-Eight c).After-wrapping_sub_u16-less) 2 (3 ∷ 5 ∷ 6 ∷ 7 ∷ 8 ∷ []) c.first_of-above_right.ensures refl refl
-    (tried (less (goal.at.returns-in-Eight c).After-wrapping_sub_u16-less) 3 (5 ∷ 6 ∷ 7 ∷ 8 ∷ []) c.first_of-left-in-Eight.ensures refl refl
-    (tried (less (goal.at.returns-in-Eight c).After-wrapping_sub_u16-less) 5 (6 ∷ 7 ∷ 8 ∷ []) c.first_of-right-in-Eight.ensures refl refl
-    (tried (less (goal.at.returns-in-Eight c).After-wrapping_sub_u16-less) 6 (7 ∷ 8 ∷ []) c.first_of-below_left.ensures refl refl
-    (tried (less (goal.at.returns-in-Eight c).After-wrapping_sub_u16-less) 7 (8 ∷ []) c.first_of-below-in-Eight.ensures refl refl
-    (tried (less (goal.at.returns-in-Eight c).After-wrapping_sub_u16-less) 8 [] c.first_of-below_right.ensures refl refl refl))))))))
+    (tried (less at-place) 0 (1 ∷ 2 ∷ 3 ∷ 5 ∷ 6 ∷ 7 ∷ 8 ∷ []) c.first_of-in-Eight.ensures lowest refl
+    (tried (less at-place) 1 (2 ∷ 3 ∷ 5 ∷ 6 ∷ 7 ∷ 8 ∷ []) c.first_of-above.ensures refl refl
+    (tried (less at-place) 2 (3 ∷ 5 ∷ 6 ∷ 7 ∷ 8 ∷ []) c.first_of-above_right.ensures refl refl
+    (tried (less at-place) 3 (5 ∷ 6 ∷ 7 ∷ 8 ∷ []) c.first_of-left-in-Eight.ensures refl refl
+    (tried (less at-place) 5 (6 ∷ 7 ∷ 8 ∷ []) c.first_of-right-in-Eight.ensures refl refl
+    (tried (less at-place) 6 (7 ∷ 8 ∷ []) c.first_of-below_left.ensures refl refl
+    (tried (less at-place) 7 (8 ∷ []) c.first_of-below-in-Eight.ensures refl refl
+    (tried (less at-place) 8 [] c.first_of-below_right.ensures refl refl refl))))))))

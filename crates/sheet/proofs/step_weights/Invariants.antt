@@ -8,7 +8,8 @@ use Rattle.sheet.proofs.step_weights.Given as goal
 
 abbrev pub invariant-loop-c : goal.invariant-loop-c
 invariant-loop-c l =
-    (l.c ≤ length l.likes) × (length l.weights ≡ length l.initial.weights) × (l.weights ≡ filled (lead_weight l.neighbours l.w l.likes l.counts l.initial.weights) l.c l.initial.weights)
+    (l.c ≤ length l.likes) × (length l.weights ≡ length l.initial.weights)
+        × (l.weights ≡ filled (lead_weight l.neighbours l.w l.likes l.counts l.initial.weights) l.c l.initial.weights)
 
 abbrev pub decreases-loop-c : goal.decreases-loop-c
 decreases-loop-c l = length l.likes - l.c

@@ -53,7 +53,8 @@ pub visit-tail-requires : goal.visit-tail-requires
 visit-tail-requires c =
     let K = turn_numbers (goal.at.visit-tail-requires c).In-loop-head in let (E, P) = c.requires.by_index in record {
       w_nonzero = (K.wide, K.narrow, K.margin, omega (arith, K), omega (arith, K));
-      room_past = flood_room P c.loop-head.counts c.loop-head.queue c.loop-head.head.0 c.loop-head.tail.0 (c.loop-head.invariant.2 E P) c.loop-head-test.true c.loop-head.invariant.1;
+      room_past = flood_room P c.loop-head.counts c.loop-head.queue c.loop-head.head.0 c.loop-head.tail.0 (c.loop-head.invariant.2 E P)
+          c.loop-head-test.true c.loop-head.invariant.1;
     }
 
 pub overflow_add-head : goal.overflow_add-head

@@ -18,7 +18,8 @@ pub offer_both-tail-requires : goal.offer_both-tail-requires
 offer_both-tail-requires c =
     let a = c.args in let (wide, narrow, margin, on, fits) = c.requires.w_nonzero in record {
       step_le_here = (omega arith, omega arith, omega arith, omega arith);
-      room_past = columns_room a.w a.here a.mask a.count wide narrow margin a.neighbours (entry (goal.at.offer_both-tail-requires c).Start) a.queue.now c.requires.room_past;
+      room_past = columns_room a.w a.here a.mask a.count wide narrow margin a.neighbours (entry (goal.at.offer_both-tail-requires c).Start) a.queue.now
+          c.requires.room_past;
     }
 
 pub offer_both-tail-requires-2 : goal.offer_both-tail-requires-2
@@ -26,7 +27,8 @@ offer_both-tail-requires-2 c =
     let a = c.args in let (wide, narrow, margin, on, fits) = c.requires.w_nonzero in
     let k = c.offer_both-tail.auto.counts in record {
       step_le_here = (omega arith, omega arith, omega arith, omega arith);
-      room_past = rows_room a.w a.here a.mask a.count wide narrow margin a.neighbours (entry (goal.at.offer_both-tail-requires-2 c).Start) c.offer_both-tail.ensures
+      room_past = rows_room a.w a.here a.mask a.count wide narrow margin a.neighbours (entry (goal.at.offer_both-tail-requires-2 c).Start)
+          c.offer_both-tail.ensures
           a.queue.now c.offer_both-tail.new.queue c.offer_both-tail.auto.queue c.requires.room_past;
     }
 
@@ -36,7 +38,8 @@ offer_both-tail-requires-in-Eight c =
     let eight = c.in-Eight.is in
     let k = c.offer_both-tail-2.auto.counts ∙ c.offer_both-tail.auto.counts in record {
       step_le_here = (omega arith, omega arith, omega arith, omega arith);
-      room_past = rising_room a.w a.here a.mask a.count wide narrow margin a.neighbours (entry (goal.at.offer_both-tail-requires-in-Eight c).Start) c.offer_both-tail.ensures
+      room_past = rising_room a.w a.here a.mask a.count wide narrow margin a.neighbours (entry (goal.at.offer_both-tail-requires-in-Eight c).Start)
+          c.offer_both-tail.ensures
           c.offer_both-tail-2.ensures eight a.queue.now c.offer_both-tail-2.new.queue
           (c.offer_both-tail-2.auto.queue ∙ c.offer_both-tail.auto.queue) c.requires.room_past;
     }
@@ -67,5 +70,6 @@ pub returns-in-Eight : goal.returns-in-Eight
 returns-in-Eight c =
     let a = c.args in let (wide, narrow, margin, on, fits) = c.requires.w_nonzero in
     let eight = c.in-Eight.is in
-    eight_all a.w a.here a.mask a.count wide narrow margin a.neighbours (entry (goal.at.returns-in-Eight c).Start) {s₁ = after (goal.at.returns-in-Eight c).After-offer_both-tail}
+    eight_all a.w a.here a.mask a.count wide narrow margin a.neighbours (entry (goal.at.returns-in-Eight c).Start)
+        {s₁ = after (goal.at.returns-in-Eight c).After-offer_both-tail}
     c.offer_both-tail.ensures c.offer_both-tail-2.ensures eight c.offer_both-tail-in-Eight.ensures c.offer_both.ensures

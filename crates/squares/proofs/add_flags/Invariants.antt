@@ -17,7 +17,8 @@ use Rattle.squares.proofs.add_flags.Given as goal
 
 abbrev pub invariant-loop-c : goal.invariant-loop-c
 invariant-loop-c l =
-    (length l.flags ≡ length l.initial.flags) × (l.c ≤ l.n - l.side.on) × Puts (λ i. at l.initial.flags i + flag l.side l.n l.labels (at l.sq) i) 0 l.c l.initial.flags l.flags
+    (length l.flags ≡ length l.initial.flags) × (l.c ≤ l.n - l.side.on) × Puts (λ i. at l.initial.flags i + flag l.side l.n l.labels (at l.sq) i) 0 l.c
+        l.initial.flags l.flags
 
 abbrev pub decreases-loop-c : goal.decreases-loop-c
 decreases-loop-c l = l.n - l.c

@@ -41,11 +41,13 @@ first_receivers-requires c =
 
 pub link_leads-requires : goal.link_leads-requires
 link_leads-requires c =
-    ((first_receiver (land (goal.at.link_leads-requires c).After-weights), weights-lead (goal.at.link_leads-requires c).After-weights), c.requires.heights_in_bounds.1)
+    let at-place = (goal.at.link_leads-requires c).After-weights in
+    ((first_receiver (land at-place), weights-lead at-place), c.requires.heights_in_bounds.1)
 
 pub returns : goal.returns
 returns c =
+    let at-place = (goal.at.returns c).After-weights in
     let a = c.args in record {
-      firsts_after = c.first_receivers.ensures a.heights.now a.marks.now (weights-are (goal.at.returns c).After-weights);
-      links_after = c.link_leads.ensures (first_receiver (land (goal.at.returns c).After-weights)) (weights-lead (goal.at.returns c).After-weights);
+      firsts_after = c.first_receivers.ensures a.heights.now a.marks.now (weights-are at-place);
+      links_after = c.link_leads.ensures (first_receiver (land at-place)) (weights-lead at-place);
     }

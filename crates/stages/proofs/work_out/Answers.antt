@@ -51,8 +51,9 @@ walk_by-requires c =
 
 pub drain-requires : goal.drain-requires
 drain-requires c =
-    let k : length (after (goal.at.drain-requires c).After-walk_by).stack ≡ length c.args.drainage.now = c.walk_by.auto.stack in record {
-      by_index = (land (goal.at.drain-requires c).After-walk_by, receivers_by c.args.manner (land (goal.at.drain-requires c).After-walk_by), drainable (goal.at.drain-requires c).After-walk_by);
+    let at-place = (goal.at.drain-requires c).After-walk_by in
+    let k : length (after at-place).stack ≡ length c.args.drainage.now = c.walk_by.auto.stack in record {
+      by_index = (land at-place, receivers_by c.args.manner (land at-place), drainable at-place);
       water_in_bounds = omega (arith, c.requires.lawful_tile.1, c.requires.holds.drainage_holds);
     }
 

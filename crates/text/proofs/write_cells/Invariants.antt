@@ -15,7 +15,8 @@ use Rattle.text.proofs.write_cells.Given as goal
 
 abbrev pub invariant-loop-c : goal.invariant-loop-c
 invariant-loop-c l =
-    (l.c ≤ l.n) × (length l.text ≡ length l.initial.text) × Wrote l.from (cell_lines l.receivers (map dropped l.levels) l.drainage l.c) l.initial.text l.text l.to
+    (l.c ≤ l.n) × (length l.text ≡ length l.initial.text) × Wrote l.from (cell_lines l.receivers (map dropped l.levels) l.drainage l.c) l.initial.text
+        l.text l.to
 
 abbrev pub decreases-loop-c : goal.decreases-loop-c
 decreases-loop-c l = l.n - l.c

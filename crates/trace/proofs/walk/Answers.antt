@@ -21,7 +21,8 @@ overflow_cast-index c = omega (arith, c.shared_slice_known-1.given c.loop-limit.
 pub returns-then-receivers-index : goal.returns-then-receivers-index
 returns-then-receivers-index c =
     let a = c.args in
-    sym (c.loop-limit.invariant.2 ∙ trace_from_outside a.receivers.now (a.limit - c.loop-limit.steps) c.loop-limit.steps c.loop-limit.cell c.if-receivers-index.true)
+    sym (c.loop-limit.invariant.2 ∙ trace_from_outside a.receivers.now (a.limit - c.loop-limit.steps) c.loop-limit.steps c.loop-limit.cell
+        c.if-receivers-index.true)
 
 pub returns-then-entry-cell : goal.returns-then-entry-cell
 returns-then-entry-cell c =

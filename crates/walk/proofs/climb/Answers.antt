@@ -101,9 +101,10 @@ visit-top-requires c =
 
 pub settle-requires : goal.settle-requires
 settle-requires c =
-    let T = turn-here (goal.at.settle-requires c).At-loop-top c.loop-top-test.true in
-    let cell : c.cell-c.result.0 < cells (goal.at.settle-requires c).At-loop-top = rw c.cell-c.ensures.0 T.cell_on in
-    let receiver : c.receiver.result.0 < cells (goal.at.settle-requires c).At-loop-top = rw c.receiver.ensures T.receiver_there in
+    let at-place = (goal.at.settle-requires c).At-loop-top in
+    let T = turn-here at-place c.loop-top-test.true in
+    let cell : c.cell-c.result.0 < cells at-place = rw c.cell-c.ensures.0 T.cell_on in
+    let receiver : c.receiver.result.0 < cells at-place = rw c.receiver.ensures T.receiver_there in
     let r = T.fits.fits_receivers in let l = T.fits.fits_levels in let v = T.fits.fits_wets in
     (cell, omega arith, omega arith, omega arith, omega arith)
 

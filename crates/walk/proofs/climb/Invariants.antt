@@ -19,8 +19,10 @@ use Rattle.walk.proofs.climb.Given as goal
 abbrev pub invariant-loop-top : goal.invariant-loop-top
 invariant-loop-top l =
     (marks : List ℕ) → (r : List ℕ) → Margin (rule_by l.neighbours) l.w l.heights marks l.links r
-    → Ready l.w (tile_land (rule_by l.neighbours) l.w l.heights marks) r (lent l.initial.stack l.initial.order l.initial.receivers l.initial.levels l.initial.wets) l.initial.top.0
-    → Midst l.w (tile_land (rule_by l.neighbours) l.w l.heights marks) r (lent l.initial.stack l.initial.order l.initial.receivers l.initial.levels l.initial.wets) (lent l.stack l.order l.receivers l.levels l.wets)
+    → Ready l.w (tile_land (rule_by l.neighbours) l.w l.heights marks) r
+        (lent l.initial.stack l.initial.order l.initial.receivers l.initial.levels l.initial.wets) l.initial.top.0
+    → Midst l.w (tile_land (rule_by l.neighbours) l.w l.heights marks) r
+        (lent l.initial.stack l.initial.order l.initial.receivers l.initial.levels l.initial.wets) (lent l.stack l.order l.receivers l.levels l.wets)
     l.written.0 l.top.0
 
 abbrev pub decreases-loop-top : goal.decreases-loop-top

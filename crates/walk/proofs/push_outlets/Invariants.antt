@@ -11,7 +11,8 @@ use Rattle.walk.proofs.push_outlets.Given as goal
 
 abbrev pub invariant-loop-c : goal.invariant-loop-c
 invariant-loop-c l =
-    (l.c ≤ length l.marks) × (length l.stack ≡ length l.initial.stack) × Begun (outlet_entry l.links) l.marks l.initial.stack l.stack (length l.marks) l.c l.top.0
+    (l.c ≤ length l.marks) × (length l.stack ≡ length l.initial.stack) × Begun (outlet_entry l.links) l.marks l.initial.stack l.stack (length l.marks) l.c
+        l.top.0
 
 abbrev pub decreases-loop-c : goal.decreases-loop-c
 decreases-loop-c l = l.c

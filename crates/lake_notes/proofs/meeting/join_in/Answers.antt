@@ -31,12 +31,13 @@ begun c =
 
 pub join_pairs-requires : goal.join_pairs-requires
 join_pairs-requires c =
+    let at-place = (goal.at.join_pairs-requires c).After-begin in
     let a = c.args in
     let b = c.begin.ensures in
     let alone = c.alone.ensures ∙ ap upto c.requires.sized.group_sized in record {
       climbing = c.requires.climbing;
-      sized = as_long_sized (begun (goal.at.join_pairs-requires c).After-begin) c.requires.sized;
-      by_index = λ marks. so_far_begun a.w a.heights.now marks (given (goal.at.join_pairs-requires c).Start) (left (goal.at.join_pairs-requires c).After-begin) alone b.0 b.1 b.2 b.3 a.list.now;
+      sized = as_long_sized (begun at-place) c.requires.sized;
+      by_index = λ marks. so_far_begun a.w a.heights.now marks (given (goal.at.join_pairs-requires c).Start) (left at-place) alone b.0 b.1 b.2 b.3 a.list.now;
     }
 
 pub returns : goal.returns

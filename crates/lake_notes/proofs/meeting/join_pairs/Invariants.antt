@@ -14,7 +14,8 @@ use Rattle.lake_notes.proofs.meeting.join_pairs.Given as goal
 abbrev pub invariant-loop-i : goal.invariant-loop-i
 invariant-loop-i l =
     (l.i ≤ length l.list)
-    × Turned l.w l.heights l.list (lists_of l.initial.group l.initial.lows l.initial.flags l.initial.parents l.initial.joins) (lists_of l.group l.lows l.flags l.parents l.joins) l.i
+    × Turned l.w l.heights l.list (lists_of l.initial.group l.initial.lows l.initial.flags l.initial.parents l.initial.joins)
+        (lists_of l.group l.lows l.flags l.parents l.joins) l.i
 
 abbrev pub decreases-loop-i : goal.decreases-loop-i
 decreases-loop-i l = length l.list - l.i
