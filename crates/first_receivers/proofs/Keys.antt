@@ -14,7 +14,7 @@ use Rattle.grid.proofs.Steepness.{never_as_steep, one_kind_le, one_kind_less, sq
 use Rattle.grid.specs.Masks.{bit_of}
 use Rattle.grid.specs.Neighbours.{is_corner, places_by, steepness}
 use Rattle.grid.specs.Window.{around, corners, sides, Stands}
-use Rattle.lists.proofs.Tests.{is, lt_or_ge}
+use Rattle.lists.proofs.Tests.{lt_or_ge}
 use Rattle.lists.specs.Lists.{at, ◌∈◌}
 use Rattle.rules.specs.FirstWays.{first_receiver}
 use Rattle.rules.specs.Land.{Land, rule_by}

@@ -58,4 +58,4 @@ pub no_two_records_one-ground : (p q : ℕ → Bool) (s t : List ℕ) {a b c d :
     → judge_record p s ≡ Accepted a b → judge_record q t ≡ Accepted c d → ground_of_record s ≡ ground_of_record t → s ≡ t
 no_two_records_one-ground p q s t bytes bytes' e f same =
     lists_determine_record p s (ground_of_record t) bytes e same
-        ∙ (writing_what_was_read q any_room t bytes' f (any_room_lem (cells_of (ground_of_record t)))).1
+    ∙ (writing_what_was_read q any_room t bytes' f (any_room_lem (cells_of (ground_of_record t)))).1

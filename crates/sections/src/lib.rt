@@ -1,6 +1,8 @@
 // Little-endian numbers in byte slices (document 01, "Records"): one number read or written at an index, and a whole section of a
 // record read into a list or written from one, through a part of the record that starts in its middle.
 // These are leaves: each asks its caller to show that the bytes lie within the slice, and checks nothing by itself.
+#![tactic(auto)]
+
 ghost use Rattle.std.specs.Prelude.{◌≡◌, ◌*◌, ◌+◌, ◌<◌, ◌≤◌, length};
 ghost use Rattle.lists.specs.Lists.{overwrite, stored, stretch};
 ghost use Rattle.sections.specs.LittleEndian.{bytes_of, number_at, numbers_at, section_of};

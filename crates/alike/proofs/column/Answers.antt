@@ -1,7 +1,6 @@
 -- `alike::column` meets its contract: of four neighbours the side alone, otherwise all three.
 -- Assumes nothing.
 use native.Mathlib.Omega.{arith}
-use borrow.Author.Rules.{rules}
 use Rattle.alike.proofs.column.Goals as goal
 
 pub returns-in-Eight : goal.returns-in-Eight

@@ -3,7 +3,6 @@
 use Prim.Native.Nat.{◌*◌, ◌/◌, ◌≤◌}
 use native.Mathlib.Nat.{mul-le-mul_right}
 use native.Mathlib.Omega.{arith}
-use borrow.Author.Rules.{rules}
 use Rattle.alike.proofs.label_at.Goals as goal
 use Rattle.alike.proofs.label_at.Goals.{Start}
 

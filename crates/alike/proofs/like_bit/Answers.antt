@@ -1,7 +1,6 @@
 -- `alike::like_bit` meets its contract: the label there is that of the place.
 -- Assumes nothing.
 use mathlib.Core.Path.{◌∙◌}
-use borrow.Author.Rules.{rules}
 use Rattle.alike.proofs.like_bit.Goals as goal
 
 pub returns : goal.returns

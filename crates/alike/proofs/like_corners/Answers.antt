@@ -4,7 +4,6 @@ use mathlib.Core.Bool.{Bool, cond, false, true}
 use mathlib.Core.Path.{◌≡◌}
 use Prim.Native.Nat.{ℕ, ◌%◌, ◌*◌, ◌/◌}
 use native.Mathlib.Omega.{arith}
-use borrow.Author.Rules.{rules}
 use Rattle.alike.specs.Narrowed.{like_at}
 use Rattle.alike.proofs.like_corners.Goals as goal
 

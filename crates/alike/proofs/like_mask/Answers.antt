@@ -1,6 +1,5 @@
 -- `alike::like_mask` meets its contract: of four neighbours the sides alone, otherwise sides and corners.
 -- Assumes nothing.
-use borrow.Author.Rules.{rules}
 use Rattle.alike.specs.Narrowed.{narrowed_by}
 use Rattle.alike.proofs.like_mask.Goals as goal
 

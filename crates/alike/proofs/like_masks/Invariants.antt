@@ -1,13 +1,9 @@
 -- `alike::like_masks` meets its contract: the bits of a cell's mask that pass the test are the mask of the neighbours with its label.
 -- Assumes nothing.
-use mathlib.Core.Path.{ap, refl, sym, ◌∙◌, ◌≡◌}
-use Prim.Native.Nat.{ℕ, ◌+◌, ◌-◌, ◌≤◌}
-use native.Mathlib.Omega.{arith}
-use lib.ListN.{length, length-set}
-use borrow.Author.Rules.{rules}
-use Rattle.alike.proofs.Like.{like_narrowed}
+use mathlib.Core.Path.{◌≡◌}
+use Prim.Native.Nat.{◌-◌, ◌≤◌}
+use lib.ListN.{length}
 use Rattle.alike.specs.NeighbourMasks.{like_mask}
-use Rattle.lists.proofs.Filled.{filled_none, filled_put}
 use Rattle.lists.specs.Lists.{filled}
 use Rattle.alike.proofs.like_masks.Given as goal
 

@@ -1,11 +1,9 @@
 -- `alike::neighbour_masks` meets its contract: before the row at b all cells before b have their masks.
 -- Assumes nothing.
 use mathlib.Core.Path.{ap, refl, sym, ◌∙◌, ◌≡◌}
-use Prim.Native.Nat.{ℕ, ◌%◌, ◌+◌, ◌-◌, ◌≤◌}
+use Prim.Native.Nat.{ℕ, ◌+◌, ◌≤◌}
 use native.Mathlib.Nat.{mod-eq_of_lt}
 use native.Mathlib.Omega.{arith}
-use lib.ListN.{length}
-use borrow.Author.Rules.{rules}
 use Rattle.alike.proofs.Puts.{filled_puts}
 use Rattle.alike.specs.NeighbourMasks.{neighbour_mask}
 use Rattle.grid.proofs.Rows.{row-after, row_fits}

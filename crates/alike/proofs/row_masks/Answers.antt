@@ -3,7 +3,6 @@
 use mathlib.Core.Path.{ap, ◌∙◌, ◌≡◌}
 use Prim.Native.Nat.{◌+◌, ◌-◌}
 use native.Mathlib.Omega.{arith}
-use borrow.Author.Rules.{rules}
 use Rattle.alike.proofs.Columns.{row_columns}
 use Rattle.alike.proofs.Puts.{puts_same}
 use Rattle.alike.specs.Columns.{in_column}

@@ -1,11 +1,7 @@
 -- `alike::store_row` meets its contract: before column x is stored the columns before it are.
 -- Assumes nothing.
-use mathlib.Core.Path.{ap, ◌≡◌}
-use Prim.Native.Nat.{ℕ, ◌+◌, ◌-◌, ◌≤◌}
-use native.Mathlib.Omega.{arith}
-use borrow.Author.Rules.{rules}
+use Prim.Native.Nat.{◌+◌, ◌-◌, ◌≤◌}
 use Rattle.alike.specs.Columns.{in_column}
-use Rattle.lists.proofs.Puts.{puts_next, puts_none, puts_to}
 use Rattle.lists.specs.Stores.{Puts}
 use Rattle.alike.proofs.store_row.Given as goal
 

@@ -6,7 +6,6 @@ use mathlib.Core.Path.{◌≡◌}
 use Prim.Native.Nat.{ℕ, ◌≤◌}
 use native.Mathlib.Omega.{arith}
 use lib.ListN.{length, replicate}
-use borrow.Author.Rules.{rules}
 use Rattle.basins.proofs.Numbered.{labelled, numbered, singular-within}
 use Rattle.basins.proofs.basin_numbers.Goals as goal
 

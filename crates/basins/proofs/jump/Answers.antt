@@ -2,10 +2,9 @@
 -- After c turns the list is what c jumps make of it, and the answer says whether one of them moved an entry.
 -- Assumes nothing.
 use mathlib.Core.Path.{ap, refl, sym, ◌∙◌, ◌≡◌}
-use Prim.Native.Nat.{ℕ, ◌-◌, ◌<◌, ◌≤◌}
+use Prim.Native.Nat.{ℕ, ◌<◌}
 use native.Mathlib.Omega.{arith}
-use lib.ListN.{length, length-set}
-use borrow.Author.Rules.{rules}
+use lib.ListN.{length-set}
 use Rattle.basins.proofs.Rounds.{jumped-next, jumped-none, moved_next, moved_none, turned}
 use Rattle.basins.specs.Jumps.{any_moved, jumped}
 use Rattle.lists.specs.Lists.{at}

@@ -3,10 +3,9 @@
 -- Assumes nothing.
 use mathlib.Core.List.{List}
 use mathlib.Core.Path.{ap, refl, sym, ◌∙◌, ◌≡◌}
-use Prim.Native.Nat.{ℕ, ◌-◌, ◌<◌, ◌≤◌}
+use Prim.Native.Nat.{ℕ, ◌<◌, ◌≤◌}
 use native.Mathlib.Omega.{arith}
 use lib.ListN.{length, length-set, set}
-use borrow.Author.Rules.{rules}
 use Rattle.basins.specs.Labels.{label_by}
 use Rattle.lists.proofs.Filled.{filled_next, filled_none, filled_past}
 use Rattle.lists.specs.Lists.{at, filled}

@@ -2,13 +2,10 @@
 -- After c turns both lists are filled up to c; the entry at c has not changed yet, so that the cell it names is still there to look up.
 -- Assumes nothing.
 use mathlib.Core.List.{List}
-use mathlib.Core.Path.{ap, refl, sym, ◌∙◌, ◌≡◌}
-use Prim.Native.Nat.{ℕ, ◌-◌, ◌<◌, ◌≤◌}
-use native.Mathlib.Omega.{arith}
-use lib.ListN.{length, length-set, set}
-use borrow.Author.Rules.{rules}
+use mathlib.Core.Path.{◌≡◌}
+use Prim.Native.Nat.{ℕ, ◌-◌, ◌≤◌}
+use lib.ListN.{length}
 use Rattle.basins.specs.Labels.{label_by}
-use Rattle.lists.proofs.Filled.{filled_next, filled_none, filled_past}
 use Rattle.lists.specs.Lists.{at, filled}
 use Rattle.rules.specs.Ground.{is_outlet}
 use Rattle.basins.proofs.look_up.Given as goal

@@ -1,7 +1,6 @@
 -- `basins::next_number` meets its contract. The two arms of the test.
 -- Assumes nothing.
 use native.Mathlib.Omega.{arith}
-use borrow.Author.Rules.{rules}
 use borrow.Author.Tests.{eq-eqb, ne_eqb}
 use Rattle.basins.proofs.next_number.Goals as goal
 

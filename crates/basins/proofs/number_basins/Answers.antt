@@ -2,11 +2,10 @@
 -- After c turns the list is filled with c counts, and the next number counts the singular cells below c.
 -- Assumes nothing.
 use mathlib.Core.Path.{ap, refl, sym, ◌∙◌, ◌≡◌}
-use Prim.Native.Nat.{ℕ, ◌-◌, ◌≤◌}
+use Prim.Native.Nat.{ℕ, ◌≤◌}
 use native.Mathlib.Omega.{arith}
 use lib.Dec.{eqb}
-use lib.ListN.{length, length-set}
-use borrow.Author.Rules.{rules}
+use lib.ListN.{length-set}
 use Rattle.basins.proofs.Numbered.{below_next, below_none, one-or_none}
 use Rattle.basins.specs.Jumps.{one_if, singular_below}
 use Rattle.lists.proofs.Filled.{filled_next, filled_none}

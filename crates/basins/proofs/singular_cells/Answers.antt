@@ -3,11 +3,10 @@
 -- and where a round moves nothing each entry leads to one that stays, which is singular. The count of steps doubles.
 -- Assumes nothing.
 use mathlib.Core.Path.{sym, ◌∙◌, ◌≡◌}
-use Prim.Native.Nat.{◌-◌, ◌<◌, ◌≤◌}
+use Prim.Native.Nat.{◌<◌, ◌≤◌}
 use native.Mathlib.Omega.{arith}
 use lib.ListN.{length}
-use borrow.Author.Tests.{not-true}
-use Rattle.basins.proofs.Settled.{Leading, leading_next, leading_start, settled_far, settled_still}
+use Rattle.basins.proofs.Settled.{leading_next, leading_start, settled_far, settled_still}
 use Rattle.basins.proofs.singular_cells.Goals as goal
 use Rattle.basins.proofs.singular_cells.Goals.{In-loop-steps}
 

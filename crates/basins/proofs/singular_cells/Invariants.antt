@@ -2,12 +2,8 @@
 -- Before each round every entry leads so many steps along the first way, or further. As many steps as cells lead to the singular cell;
 -- and where a round moves nothing each entry leads to one that stays, which is singular. The count of steps doubles.
 -- Assumes nothing.
-use mathlib.Core.Path.{sym, ◌∙◌, ◌≡◌}
-use Prim.Native.Nat.{◌-◌, ◌<◌, ◌≤◌}
-use native.Mathlib.Omega.{arith}
-use lib.ListN.{length}
-use borrow.Author.Tests.{not-true}
-use Rattle.basins.proofs.Settled.{Leading, leading_next, leading_start, settled_far, settled_still}
+use Prim.Native.Nat.{◌-◌}
+use Rattle.basins.proofs.Settled.{Leading}
 use Rattle.basins.proofs.singular_cells.Given as goal
 
 abbrev pub invariant-loop-steps : goal.invariant-loop-steps

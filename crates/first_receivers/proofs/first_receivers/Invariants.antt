@@ -1,9 +1,7 @@
 -- `first_receivers::first_receivers` meets its contract: each cell gets the cell that its weight leads to, and that is its first receiver.
 -- Assumes nothing.
-use Rattle.std.proofs.Common.{◌≡◌, ℕ, ◌+◌, ◌-◌, ◌≤◌, List, length, sym, refl, ap, ◌∙◌, arith, length-set, rules}
-use Rattle.first_receivers.proofs.Weighing.{weighed_grid, weighed_placed}
+use Rattle.std.proofs.Common.{◌≡◌, ℕ, ◌-◌, ◌≤◌, List, length}
 use Rattle.first_receivers.specs.Weights.{Weighed}
-use Rattle.lists.proofs.Filled.{filled_none, filled_put}
 use Rattle.lists.specs.Lists.{filled}
 use Rattle.rules.specs.FirstWays.{first_receiver}
 use Rattle.rules.specs.Land.{rule_by}

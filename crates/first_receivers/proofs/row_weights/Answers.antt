@@ -1,7 +1,7 @@
 -- `first_receivers::row_weights` meets its contract: before column x is stored the cells before it have their weights, those of the rows before and
 -- those of this row; the column is known, so the four cells that are compared are the cell's neighbours.
 -- Assumes nothing.
-use Rattle.std.proofs.Common.{◌≡◌, ℕ, ◌+◌, ◌-◌, ◌≤◌, max, List, length, set, sym, refl, ap, ◌∙◌, add-zero, arith, length-set, rules, le-ltb, lt-ltb}
+use Rattle.std.proofs.Common.{◌≡◌, ℕ, ◌+◌, ◌-◌, ◌≤◌, List, length, set, sym, refl, ap, ◌∙◌, add-zero, arith, length-set, rules, le-ltb, lt-ltb}
 use Rattle.first_receivers.proofs.Rows.{first_crossed, inner_crossed, weight_at_lem}
 use Rattle.first_receivers.specs.Weights.{weight}
 use Rattle.lists.proofs.Filled.{filled_put}
@@ -103,7 +103,7 @@ returns-then-w-gt1 c =
     (rw (e, lt-ltb 0 x (omega arith))) (rw (e, le-ltb (x + 1) a.w (omega arith))) in
     λ old room q. filled_put (weight a.neighbours a.w a.heights.now a.marks.now) (a.b + x) (a.b + a.w) old (omega (arith, R.fits))
     (c.loop-x.invariant.3 old room (first-put (goal.at.returns-then-w-gt1 c).After-weight_of old room q)) (omega arith)
-        (c.weight_of-then-w-gt1.ensures ∙ last) (omega arith)
+    (c.weight_of-then-w-gt1.ensures ∙ last) (omega arith)
 
 pub shape_of-out-else-w-gt1 : goal.shape_of-out-else-w-gt1
 shape_of-out-else-w-gt1 c =

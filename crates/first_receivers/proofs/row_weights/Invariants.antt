@@ -1,10 +1,8 @@
 -- `first_receivers::row_weights` meets its contract: before column x is stored the cells before it have their weights, those of the rows before and
 -- those of this row; the column is known, so the four cells that are compared are the cell's neighbours.
 -- Assumes nothing.
-use Rattle.std.proofs.Common.{◌≡◌, ℕ, ◌+◌, ◌-◌, ◌≤◌, max, List, length, set, sym, refl, ap, ◌∙◌, add-zero, arith, length-set, rules, le-ltb, lt-ltb}
-use Rattle.first_receivers.proofs.Rows.{first_crossed, inner_crossed, weight_at_lem}
+use Rattle.std.proofs.Common.{◌≡◌, ℕ, ◌+◌, ◌-◌, ◌≤◌, max, List, length}
 use Rattle.first_receivers.specs.Weights.{weight}
-use Rattle.lists.proofs.Filled.{filled_put}
 use Rattle.lists.specs.Lists.{filled}
 use Rattle.first_receivers.proofs.row_weights.Given as goal
 

@@ -1,6 +1,6 @@
 -- `first_receivers::second` meets its contract. The two arms of the test.
 -- Assumes nothing.
-use Rattle.std.proofs.Common.{rules, le-ltb, lt-ltb}
+use Rattle.std.proofs.Common.{le-ltb, lt-ltb}
 use Rattle.first_receivers.proofs.second.Goals as goal
 
 pub returns-then-w-gt1 : goal.returns-then-w-gt1

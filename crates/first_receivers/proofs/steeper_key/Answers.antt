@@ -1,6 +1,6 @@
 -- `first_receivers::steeper_key` meets its contract. Squares of drops of at most 16,000,000 fit into 64 bits, twice.
 -- Assumes nothing.
-use Rattle.std.proofs.Common.{◌*◌, ◌≤◌, arith, rules, le-ltb, lt-ltb}
+use Rattle.std.proofs.Common.{◌*◌, ◌≤◌, arith, le-ltb, lt-ltb}
 use Rattle.grid.proofs.Steepness.{square_fits}
 use Rattle.first_receivers.proofs.steeper_key.Goals as goal
 use Rattle.first_receivers.proofs.steeper_key.Goals.{After-drop_to-b}

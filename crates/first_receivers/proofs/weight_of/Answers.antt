@@ -1,6 +1,6 @@
 -- `first_receivers::weight_of` meets its contract: 0 for an outlet, otherwise the bit of the steepest way's key.
 -- Assumes nothing.
-use Rattle.std.proofs.Common.{sym, ◌∙◌, rules}
+use Rattle.std.proofs.Common.{sym, ◌∙◌}
 use Rattle.first_receivers.specs.Weights.{weight_by}
 use Rattle.first_receivers.proofs.weight_of.Goals as goal
 

@@ -1,7 +1,7 @@
 -- `first_receivers::weights` meets its contract: before the row at b all cells before b have their weights, and a weight is the mask of the first
 -- receiver alone.
 -- Assumes nothing.
-use Rattle.std.proofs.Common.{◌≡◌, ℕ, ◌-◌, ◌%◌, ◌≤◌, length, sym, refl, ap, ◌∙◌, mod-eq_of_lt, arith, rules}
+use Rattle.std.proofs.Common.{◌≡◌, ℕ, length, sym, refl, ap, ◌∙◌, mod-eq_of_lt, arith, rules}
 use Rattle.first_receivers.proofs.Weighing.{weight-mask}
 use Rattle.first_receivers.proofs.Rows.{row_of}
 use Rattle.first_receivers.specs.Weights.{first_is, weight}

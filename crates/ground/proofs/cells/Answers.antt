@@ -1,7 +1,6 @@
 -- `ground::cells` meets its contract: the product of two numbers below 65,536 fits.
 -- Assumes nothing.
 use native.Mathlib.Omega.{arith}
-use borrow.Author.Rules.{rules}
 use Rattle.ground.proofs.Counting.{product_below}
 use Rattle.ground.proofs.cells.Goals as goal
 

@@ -38,9 +38,9 @@ returns-then-greatest_height_of_record-gt16000000 c =
     rw (c.wide-then-greatest_height_of_record-gt16000000.ensures.0, c.wide.ensures.0) at c.first_bad_in_bytes-bad.ensures.0
     ∙ bad_in_record_found bytes (c.args.height * c.args.width) in
     let above = rw (greatest-of-all (goal.at.returns-then-greatest_height_of_record-gt16000000 c).After-greatest_height_of_record) at
-        c.if-greatest_height_of_record-gt16000000.true in
+    c.if-greatest_height_of_record-gt16000000.true in
     let found = some_bad_height bytes (c.args.height * c.args.width)
-        (bytes_below (goal.at.returns-then-greatest_height_of_record-gt16000000 c).After-shared_slice_known-1) (omega arith) above in
+    (bytes_below (goal.at.returns-then-greatest_height_of_record-gt16000000 c).After-shared_slice_known-1) (omega arith) above in
     heights_bad (ground_in bytes c.args.width c.args.height) e (rw e found)
 
 pub returns : goal.returns

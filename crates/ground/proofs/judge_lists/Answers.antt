@@ -3,8 +3,6 @@
 use mathlib.Core.Bool.{true}
 use mathlib.Core.Path.{refl, sym, ◌∙◌, ◌≡◌}
 use Prim.Native.Nat.{◌*◌, ◌≤◌}
-use borrow.Author.Rules.{rules}
-use borrow.Author.Tests.{not-false, not-true}
 use Rattle.ground.proofs.Judging.{cells_decide, judged_cells, refused_length, refused_room, refused_size}
 use Rattle.ground.proofs.SizedLists.{full, sized}
 use Rattle.ground.specs.Judge.{judge_lists, lists_full, size_allowed}
@@ -60,7 +58,7 @@ returns-then-not-has_room c =
     let n = c.cells-n.ensures in
     let e = rw n at (sym c.has_room.ensures ∙ c.if-not-has_room.true) in
     refused_room _ _ _ _ (size-held (goal.at.returns-then-not-has_room c).Else-not-size_allowed)
-        (full-held (goal.at.returns-then-not-has_room c).Else-not-lists_full) refl e
+    (full-held (goal.at.returns-then-not-has_room c).Else-not-lists_full) refl e
 
 pub judge_cells_of_lists-requires : goal.judge_cells_of_lists-requires
 judge_cells_of_lists-requires c =
@@ -74,4 +72,4 @@ unfolding judge_lists
 returns c =
     let e = c.judge_cells_of_lists.ensures ∙ cells_decide (ground (goal.at.returns c).Start) in
     judged_cells _ _ _ _ (size-held (goal.at.returns c).Else-not-size_allowed) (full-held (goal.at.returns c).Else-not-lists_full) refl
-        (room_held (goal.at.returns c).Else-not-has_room) e
+    (room_held (goal.at.returns c).Else-not-has_room) e

@@ -1,6 +1,5 @@
 -- `ground::judge_record` meets its contract: under 16 bytes it is refused, and else by the width and the height of its trailer.
 -- Assumes nothing.
-use borrow.Author.Rules.{rules}
 use borrow.Author.Tests.{le-leb, lt-leb}
 use Rattle.ground.specs.Judge.{judge_record}
 use Rattle.ground.proofs.judge_record.Goals as goal

@@ -6,8 +6,7 @@ use Prim.Native.Nat.{◌*◌, ◌+◌, ◌≤◌}
 use native.Mathlib.Omega.{arith}
 use lib.Dec.{eqb}
 use lib.ListN.{length}
-use borrow.Author.Rules.{rules}
-use borrow.Author.Tests.{eq-eqb, eqb-true, ne_eqb, not-false, not-true}
+use borrow.Author.Tests.{eq-eqb, eqb-true, ne_eqb}
 use Rattle.ground.proofs.Judging.{judged_cells, refused_distance, refused_length, refused_room, refused_size}
 use Rattle.ground.proofs.SizedLists.{sized}
 use Rattle.ground.specs.Judge.{size_allowed}
@@ -71,7 +70,7 @@ returns-then-not-distances_right c =
     let n = c.cells-n.ensures in
     let e = rw n at (sym c.distances_right.ensures ∙ c.if-not-distances_right.true) in
     refused_distance _ _ _ _ (size-held (goal.at.returns-then-not-distances_right c).Else-not-size_allowed)
-        (long-held (goal.at.returns-then-not-distances_right c).Else-bytes-n) e
+    (long-held (goal.at.returns-then-not-distances_right c).Else-bytes-n) e
 
 pub has_room-requires : goal.has_room-requires
 has_room-requires c = count_few (goal.at.has_room-requires c).After-cells-n
@@ -81,7 +80,7 @@ returns-then-not-has_room c =
     let n = c.cells-n.ensures in
     let e = rw n at (sym c.has_room.ensures ∙ c.if-not-has_room.true) in
     refused_room _ _ _ _ (size-held (goal.at.returns-then-not-has_room c).Else-not-size_allowed)
-        (long-held (goal.at.returns-then-not-has_room c).Else-bytes-n) (right-held (goal.at.returns-then-not-has_room c).Else-not-distances_right) e
+    (long-held (goal.at.returns-then-not-has_room c).Else-bytes-n) (right-held (goal.at.returns-then-not-has_room c).Else-not-distances_right) e
 
 pub judge_cells_of_record-requires : goal.judge_cells_of_record-requires
 judge_cells_of_record-requires c =
@@ -95,4 +94,4 @@ returns c =
     let allowed = size-held (goal.at.returns c).Else-not-size_allowed in
     let long = long-held (goal.at.returns c).Else-bytes-n in
     judged_cells _ _ _ _ allowed long (right-held (goal.at.returns c).Else-not-distances_right) (room_held (goal.at.returns c).Else-not-has_room)
-        c.judge_cells_of_record.ensures
+    c.judge_cells_of_record.ensures

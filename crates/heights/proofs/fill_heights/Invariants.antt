@@ -1,10 +1,7 @@
 -- `heights::fill_heights` meets its contract: after i turns the part is the section of the first i heights, and then what it was.
 -- Assumes nothing.
-use Rattle.std.proofs.Common.{◌≡◌, ◌-◌, ◌≤◌, map, length, get_or, pos, refl, ◌∙◌, arith, to_z-of_z, w32, SFits, rules}
-use lib.ListN.{length-map}
-use Rattle.heights.proofs.HeightSections.{heights-next}
+use Rattle.std.proofs.Common.{◌≡◌, ◌-◌, ◌≤◌, map, length}
 use Rattle.heights.specs.Bits.{bits_of}
-use Rattle.sections.proofs.Sections.{section_all}
 use Rattle.sections.specs.LittleEndian.{section_filled}
 use Rattle.heights.proofs.fill_heights.Given as goal
 

@@ -1,6 +1,6 @@
 -- `heights::lift` meets its contract: the lift on a height's bits is the lifted height.
 -- Assumes nothing.
-use Rattle.std.proofs.Common.{◌≡◌, ◌∙◌, to_z-of_z, rules}
+use Rattle.std.proofs.Common.{◌≡◌, ◌∙◌, to_z-of_z}
 use Rattle.heights.proofs.Heights.{lifted_bits-bits_of}
 use Rattle.heights.specs.Bits.{bits_of, lifted_bits}
 use Rattle.heights.proofs.lift.Goals as goal

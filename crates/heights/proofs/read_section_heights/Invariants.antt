@@ -1,8 +1,6 @@
 -- `heights::read_section_heights` meets its contract: after k turns the list is the section's first k heights, and then what it was.
 -- Assumes nothing.
-use Rattle.std.proofs.Common.{◌≡◌, ◌-◌, ◌≤◌, ◌++◌, length, drop, refl, ◌∙◌, arith, length-set, to_z-of_z, w32, SFits, rules}
-use Rattle.lists.proofs.Overwrite.{overwrite-is}
-use Rattle.heights.proofs.HeightSections.{heights_at-next, length-heights_at}
+use Rattle.std.proofs.Common.{◌≡◌, ◌-◌, ◌≤◌, ◌++◌, length, drop}
 use Rattle.heights.specs.Bits.{heights_at}
 use Rattle.heights.proofs.read_section_heights.Given as goal
 

@@ -1,6 +1,6 @@
 -- `heights::signed_of` meets its contract: bits from 2,147,483,648 on say -1 - (4,294,967,295 - bits).
 -- Assumes nothing.
-use Rattle.std.proofs.Common.{◌-◌, ◌<◌, arith, to_z-of_z, rules, lt-ltb}
+use Rattle.std.proofs.Common.{◌-◌, ◌<◌, arith, to_z-of_z, lt-ltb}
 use Rattle.heights.proofs.Bits.{minus_one-bits, negsuc_fits, signed_of-high}
 use Rattle.heights.proofs.signed_of.Goals as goal
 

@@ -1,6 +1,6 @@
 -- `heights::write_section_heights` meets its contract: the part that was lent comes back as the section.
 -- Assumes nothing.
-use Rattle.std.proofs.Common.{◌≡◌, ℕ, ◌+◌, ◌*◌, length, ap, rules}
+use Rattle.std.proofs.Common.{◌≡◌, ℕ, ◌+◌, ◌*◌, length, ap}
 use Rattle.heights.proofs.HeightSections.{length-height_section}
 use Rattle.heights.specs.Bits.{height_section}
 use Rattle.lists.proofs.Stored.{stored-part}

@@ -1,7 +1,6 @@
 -- `lowest::lowest_key` meets its contract: the keys in the row above, beside the cell and in the row below, with four neighbours only those at the
 -- sides.
 -- Assumes nothing.
-use borrow.Author.Rules.{rules}
 use Rattle.lowest.specs.Lowest.{lowest_key}
 use Rattle.lowest.proofs.lowest_key.Goals as goal
 

@@ -1,7 +1,7 @@
 -- `lowest::lowest_weights` meets its contract: each cell gets its weight by the levels around it, and that is the mask of its lowest neighbour.
 -- Assumes nothing.
 use mathlib.Core.Path.{ap, refl, sym, ◌≡◌, ◌∙◌}
-use Prim.Native.Nat.{ℕ, ◌+◌, ◌-◌, ◌≤◌}
+use Prim.Native.Nat.{ℕ, ◌+◌}
 use native.Mathlib.Omega.{arith}
 use lib.ListN.{length, length-set}
 use borrow.Author.Rules.{rules}

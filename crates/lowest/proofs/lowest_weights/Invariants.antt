@@ -1,16 +1,12 @@
 -- `lowest::lowest_weights` meets its contract: each cell gets its weight by the levels around it, and that is the mask of its lowest neighbour.
 -- Assumes nothing.
-use mathlib.Core.Path.{ap, refl, sym, ◌≡◌, ◌∙◌}
-use Prim.Native.Nat.{ℕ, ◌+◌, ◌-◌, ◌≤◌}
-use native.Mathlib.Omega.{arith}
-use lib.ListN.{length, length-set}
-use borrow.Author.Rules.{rules}
+use mathlib.Core.Path.{◌≡◌}
+use Prim.Native.Nat.{◌-◌, ◌≤◌}
+use lib.ListN.{length}
 use Rattle.first_receivers.specs.Weights.{first_is}
 use Rattle.grid.specs.Masks.{mask_of}
 use Rattle.grid.specs.Window.{around}
-use Rattle.lists.proofs.Filled.{filled_none, filled_put}
 use Rattle.lists.specs.Lists.{filled}
-use Rattle.lowest.proofs.Weighing.{weight-mask, windowed}
 use Rattle.lowest.specs.Lowest.{lowest_land}
 use Rattle.lowest.proofs.lowest_weights.Given as goal
 

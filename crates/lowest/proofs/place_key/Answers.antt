@@ -1,6 +1,5 @@
 -- `lowest::place_key` meets its contract: the key of the entry where the mask has the bit, otherwise one greater than all.
 -- Assumes nothing.
-use borrow.Author.Rules.{rules}
 use Rattle.lowest.proofs.place_key.Goals as goal
 
 pub returns : goal.returns

@@ -1,7 +1,6 @@
 -- `lowest::weight_at` meets its contract: 0 for an outlet, otherwise the bit of the least key.
 -- Assumes nothing.
 use mathlib.Core.Path.{sym, ◌∙◌}
-use borrow.Author.Rules.{rules}
 use Rattle.lowest.specs.Lowest.{weight_at}
 use Rattle.lowest.proofs.weight_at.Goals as goal
 

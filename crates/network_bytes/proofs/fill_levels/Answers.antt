@@ -2,13 +2,11 @@
 -- Assumes nothing.
 use mathlib.Core.List.{map}
 use mathlib.Core.Path.{refl, ◌∙◌, ◌≡◌}
-use Prim.Native.Nat.{◌-◌, ◌≤◌}
 use native.Mathlib.Omega.{arith}
 use lib.ListN.{length, length-map}
 use borrow.Author.Rules.{rules}
 use Rattle.heights.specs.Bits.{dropped_bits}
 use Rattle.sections.proofs.Sections.{section_all}
-use Rattle.sections.specs.LittleEndian.{section_filled}
 use Rattle.network_bytes.proofs.Laws.{levels-next}
 use Rattle.network_bytes.proofs.fill_levels.Goals as goal
 

@@ -4,7 +4,6 @@ use mathlib.Core.List.{◌++◌}
 use mathlib.Core.Path.{refl}
 use Prim.Native.Nat.{◌*◌, ◌+◌}
 use native.Mathlib.Omega.{arith}
-use borrow.Author.Rules.{rules}
 use Rattle.sections.specs.LittleEndian.{bytes_of}
 use Rattle.lists.proofs.Stored.{stored_on}
 use Rattle.network_bytes.specs.NetworkRecord.{distances}

@@ -5,7 +5,6 @@ use mathlib.Core.Path.{refl, ◌≡◌}
 use Prim.Native.Nat.{◌*◌}
 use native.Mathlib.Omega.{arith}
 use lib.ListN.{length, length-append, length-take, take}
-use borrow.Author.Rules.{rules}
 use Rattle.sections.proofs.Sections.{length-section_of}
 use Rattle.sections.specs.LittleEndian.{section_of}
 use Rattle.lists.proofs.Overwrite.{overwrite-next}

@@ -4,7 +4,6 @@ use mathlib.Core.List.{map}
 use mathlib.Core.Path.{ap, sym, ◌∙◌, ◌≡◌}
 use Prim.Native.Nat.{ℕ, ◌*◌, ◌+◌}
 use lib.ListN.{length, length-map}
-use borrow.Author.Rules.{rules}
 use Rattle.heights.proofs.HeightSections.{length-height_section}
 use Rattle.heights.specs.Bits.{bits_of, dropped_bits, height_section}
 use Rattle.lists.proofs.Stored.{stored-part}

@@ -5,7 +5,6 @@ use mathlib.Core.Path.{refl, ◌≡◌}
 use Prim.Native.Nat.{◌*◌, ◌+◌, ◌≤◌}
 use native.Mathlib.Omega.{arith}
 use lib.ListN.{length}
-use borrow.Author.Rules.{rules}
 use Rattle.sections.specs.LittleEndian.{bytes_of}
 use Rattle.lists.proofs.Stored.{stored_on}
 use Rattle.network_bytes.proofs.Laws.{length-distances}

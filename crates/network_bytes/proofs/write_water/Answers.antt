@@ -5,7 +5,6 @@ use mathlib.Core.Path.{◌∙◌, ◌≡◌}
 use Prim.Native.Nat.{◌*◌}
 use native.Mathlib.Omega.{arith}
 use lib.ListN.{length, length-append, length-map, length-take, take}
-use borrow.Author.Rules.{rules}
 use Rattle.heights.proofs.HeightSections.{length-height_section}
 use Rattle.heights.specs.Bits.{height_section}
 use Rattle.sections.proofs.Sections.{length-section_of}

@@ -1,7 +1,6 @@
 -- `pairs::height` meets its contract: the greater of the heights of the pair's two cells.
 -- Assumes nothing.
 use native.Mathlib.Omega.{arith}
-use borrow.Author.Rules.{rules}
 use Rattle.pairs.proofs.Pairs.{pair_climbs}
 use Rattle.pairs.proofs.height.Goals as goal
 

@@ -1,6 +1,5 @@
 -- `record_impostors::read` meets its contract: it is that of the reader that it hands on to.
 -- Assumes nothing.
-use borrow.Author.Rules.{rules}
 use Rattle.record_impostors.proofs.read.Goals as goal
 
 pub returns : goal.returns

@@ -3,7 +3,6 @@
 use mathlib.Core.Path.{◌∙◌}
 use Prim.Native.Nat.{◌≤◌}
 use native.Mathlib.Omega.{arith}
-use borrow.Author.Rules.{rules}
 use Rattle.grid.proofs.Rows.{rows_fit}
 use Rattle.lists.proofs.Stored.{stored-start}
 use Rattle.records.proofs.Sections.{trailer_done}

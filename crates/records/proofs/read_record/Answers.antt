@@ -4,10 +4,8 @@ use mathlib.Core.Path.{refl, sym, ◌∙◌, ◌≡◌}
 use Prim.Native.Nat.{min, ◌*◌, ◌+◌}
 use native.Mathlib.Omega.{arith}
 use lib.ListN.{length}
-use borrow.Author.Rules.{rules}
 use borrow.Author.Tests.{leb-true}
 use Rattle.ground.proofs.Acceptance.{record_accepted}
-use Rattle.ground.specs.Accepted.{AcceptedRecord}
 use Rattle.ground.specs.Judge.{judge_record}
 use Rattle.ground.specs.Record.{ground_of_record}
 use Rattle.records.proofs.Reading.{heights_read, marks_read, water_read}

@@ -3,10 +3,8 @@
 use mathlib.Core.Path.{refl, sym, ◌∙◌}
 use Prim.Native.Nat.{◌*◌, ◌+◌}
 use lib.ListN.{length}
-use borrow.Author.Rules.{rules}
 use borrow.Author.Tests.{leb-true}
 use Rattle.ground.proofs.Acceptance.{lists_accepted}
-use Rattle.ground.specs.Accepted.{AcceptedLists}
 use Rattle.ground.specs.Record.{ground_of_lists}
 use Rattle.ground.specs.Rooms.{record_holds}
 use Rattle.records.proofs.write_record.Goals as goal

@@ -1,7 +1,6 @@
 -- `records::write_sections` meets its contract: each section is stored next to what was stored before it.
 -- Assumes nothing.
 use mathlib.Core.Path.{◌∙◌}
-use borrow.Author.Rules.{rules}
 use Rattle.ground.proofs.Acceptance.{good_full}
 use Rattle.ground.specs.Record.{ground_of_lists}
 use Rattle.heights.specs.Bits.{height_section}

@@ -3,7 +3,6 @@
 use mathlib.Core.Path.{ap, ◌≡◌}
 use Prim.Native.Nat.{ℕ, ◌+◌}
 use lib.ListN.{length}
-use borrow.Author.Rules.{rules}
 use Rattle.ground.specs.Record.{trailer}
 use Rattle.lists.proofs.Stored.{stored-part}
 use Rattle.records.proofs.Sections.{length-trailer}

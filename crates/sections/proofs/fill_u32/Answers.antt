@@ -1,12 +1,9 @@
 -- `sections::fill_u32` meets its contract: after i turns the part is the section of the first i entries, and then what it was.
 -- Assumes nothing.
-use mathlib.Core.Path.{refl, ◌∙◌, ◌≡◌}
-use Prim.Native.Nat.{◌-◌, ◌≤◌}
+use mathlib.Core.Path.{refl, ◌∙◌}
 use native.Mathlib.Omega.{arith}
-use lib.ListN.{length}
 use borrow.Author.Rules.{rules}
 use Rattle.sections.proofs.Sections.{section_all, section_next}
-use Rattle.sections.specs.LittleEndian.{section_filled}
 use Rattle.sections.proofs.fill_u32.Goals as goal
 
 pub loop-i-init : goal.loop-i-init

@@ -1,11 +1,8 @@
 -- `sections::fill_u32` meets its contract: after i turns the part is the section of the first i entries, and then what it was.
 -- Assumes nothing.
-use mathlib.Core.Path.{refl, ◌∙◌, ◌≡◌}
+use mathlib.Core.Path.{◌≡◌}
 use Prim.Native.Nat.{◌-◌, ◌≤◌}
-use native.Mathlib.Omega.{arith}
 use lib.ListN.{length}
-use borrow.Author.Rules.{rules}
-use Rattle.sections.proofs.Sections.{section_all, section_next}
 use Rattle.sections.specs.LittleEndian.{section_filled}
 use Rattle.sections.proofs.fill_u32.Given as goal
 

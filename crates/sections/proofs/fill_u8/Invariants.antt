@@ -1,13 +1,9 @@
 -- `sections::fill_u8` meets its contract: after i turns the part is the first i entries of the list, and then what it was.
 -- Assumes nothing.
-use mathlib.Core.List.{append-nil, ◌++◌}
-use mathlib.Core.Path.{refl, ◌∙◌, ◌≡◌}
+use mathlib.Core.List.{◌++◌}
+use mathlib.Core.Path.{◌≡◌}
 use Prim.Native.Nat.{◌-◌, ◌≤◌}
-use native.Mathlib.Omega.{arith}
-use lib.ListN.{drop, length, length-set, take}
-use lib.Seq.{drop-length, take-length}
-use borrow.Author.Rules.{rules}
-use Rattle.lists.proofs.Overwrite.{overwrite_copy}
+use lib.ListN.{drop, length, take}
 use Rattle.sections.proofs.fill_u8.Given as goal
 
 abbrev pub invariant-loop-i : goal.invariant-loop-i

@@ -1,10 +1,9 @@
 -- `sections::read_section_u16` meets its contract: after k turns the list is the section's first k numbers, and then what it was.
 -- Assumes nothing.
-use mathlib.Core.List.{◌++◌}
 use mathlib.Core.Path.{refl, ◌∙◌, ◌≡◌}
-use Prim.Native.Nat.{◌*◌, ◌+◌, ◌-◌, ◌≤◌}
+use Prim.Native.Nat.{◌*◌, ◌+◌}
 use native.Mathlib.Omega.{arith}
-use lib.ListN.{drop, length, length-set}
+use lib.ListN.{length-set}
 use borrow.Author.Rules.{rules}
 use Rattle.lists.proofs.Tab.{tab-length}
 use Rattle.lists.proofs.Overwrite.{overwrite-is, overwrite-tab}

@@ -1,14 +1,10 @@
 -- `sections::read_section_u16` meets its contract: after k turns the list is the section's first k numbers, and then what it was.
 -- Assumes nothing.
 use mathlib.Core.List.{◌++◌}
-use mathlib.Core.Path.{refl, ◌∙◌, ◌≡◌}
-use Prim.Native.Nat.{◌*◌, ◌+◌, ◌-◌, ◌≤◌}
-use native.Mathlib.Omega.{arith}
-use lib.ListN.{drop, length, length-set}
-use borrow.Author.Rules.{rules}
-use Rattle.lists.proofs.Tab.{tab-length}
-use Rattle.lists.proofs.Overwrite.{overwrite-is, overwrite-tab}
-use Rattle.sections.specs.LittleEndian.{number_at, numbers_at}
+use mathlib.Core.Path.{◌≡◌}
+use Prim.Native.Nat.{◌-◌, ◌≤◌}
+use lib.ListN.{drop, length}
+use Rattle.sections.specs.LittleEndian.{numbers_at}
 use Rattle.sections.proofs.read_section_u16.Given as goal
 
 abbrev pub invariant-loop-k : goal.invariant-loop-k

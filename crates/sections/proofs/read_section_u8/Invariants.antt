@@ -1,15 +1,9 @@
 -- `sections::read_section_u8` meets its contract: after k turns the list is the first k bytes of the section, and then what it was.
 -- Assumes nothing.
 use mathlib.Core.List.{◌++◌}
-use mathlib.Core.Path.{refl, ◌∙◌, ◌≡◌}
-use Prim.Native.Nat.{◌-◌, ◌<◌, ◌≤◌}
-use native.Mathlib.Omega.{arith}
-use lib.ListN.{drop, length, length-drop, length-set, take}
-use lib.Seq.{get_or-drop}
-use borrow.Author.Rules.{rules}
-use Rattle.lists.specs.Lists.{stretch}
-use Rattle.lists.proofs.Stretch.{stretch-length}
-use Rattle.lists.proofs.Overwrite.{overwrite_copy, overwrite-is}
+use mathlib.Core.Path.{◌≡◌}
+use Prim.Native.Nat.{◌-◌, ◌≤◌}
+use lib.ListN.{drop, length, take}
 use Rattle.sections.proofs.read_section_u8.Given as goal
 
 abbrev pub invariant-loop-k : goal.invariant-loop-k

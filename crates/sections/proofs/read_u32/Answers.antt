@@ -2,7 +2,6 @@
 -- Assumes nothing.
 use native.Mathlib.Numerals.{towards_suc}
 use native.Mathlib.Omega.{arith}
-use borrow.Author.Rules.{rules}
 use Rattle.sections.proofs.read_u32.Goals as goal
 
 pub returns : goal.returns

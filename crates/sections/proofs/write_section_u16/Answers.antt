@@ -3,7 +3,6 @@
 use mathlib.Core.Path.{◌≡◌}
 use Prim.Native.Nat.{◌*◌, ◌+◌}
 use lib.ListN.{length}
-use borrow.Author.Rules.{rules}
 use Rattle.lists.proofs.Stored.{stored-part}
 use Rattle.sections.proofs.Sections.{length-section_of}
 use Rattle.sections.specs.LittleEndian.{section_of}

@@ -3,7 +3,6 @@
 use native.Mathlib.Numerals.{towards_suc}
 use native.Mathlib.Omega.{arith}
 use lib.ListN.{length-set}
-use borrow.Author.Rules.{rules}
 use Rattle.lists.proofs.Stored.{stored-sets}
 use Rattle.sections.specs.LittleEndian.{bytes_of}
 use Rattle.sections.proofs.write_u16.Goals as goal

@@ -4,7 +4,6 @@ use mathlib.Core.List.{List, ◌++◌}
 use mathlib.Core.Path.{ap, refl, ◌∙◌, ◌≡◌}
 use Prim.Native.Nat.{ℕ, ◌%◌, ◌*◌, ◌+◌, ◌/◌, ◌<◌}
 use native.Mathlib.Omega.{arith}
-use borrow.Author.Rules.{rules}
 use Rattle.lists.proofs.Stored.{stored_on}
 use Rattle.lists.specs.Lists.{stored}
 use Rattle.sections.specs.LittleEndian.{bytes_of}

@@ -1,15 +1,13 @@
 -- `spread::flood` meets its contract. Between turns the cells before the queue's head were taken out (Breadth); a turn visits the next one
 -- (Floods), and in the end each count is the fewest (Ends).
 -- Assumes nothing.
-use mathlib.Core.Path.{refl, ◌∙◌, ◌≡◌}
-use Prim.Native.Nat.{◌-◌}
+use mathlib.Core.Path.{refl, ◌∙◌}
 use native.Mathlib.Omega.{arith}
 use lib.ListN.{length}
-use borrow.Author.Rules.{rules}
 use Rattle.lists.specs.Lists.{at}
 use Rattle.spread.proofs.Begins.{begin}
 use Rattle.spread.proofs.Ends.{spread_all}
-use Rattle.spread.proofs.Floods.{Between, flood_room, flood_turn, numbers, Numbers}
+use Rattle.spread.proofs.Floods.{flood_room, flood_turn, numbers, Numbers}
 use Rattle.spread.specs.Spread.{marked_in}
 use Rattle.spread.specs.Wave.{wave}
 use Rattle.spread.proofs.flood.Goals as goal

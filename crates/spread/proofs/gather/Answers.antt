@@ -1,7 +1,7 @@
 -- `spread::gather` meets its contract: between turns the places of those before cell c are packed into the queue (Begins).
 -- Assumes nothing.
 use mathlib.Core.Path.{refl, subst, ◌∙◌, ◌≡◌}
-use Prim.Native.Nat.{ℕ, ◌+◌, ◌-◌, ◌≤◌}
+use Prim.Native.Nat.{ℕ, ◌+◌, ◌≤◌}
 use native.Mathlib.Omega.{arith}
 use lib.ListN.{length, length-set}
 use borrow.Author.Rules.{rules}

@@ -1,13 +1,9 @@
 -- `spread::gather` meets its contract: between turns the places of those before cell c are packed into the queue (Begins).
 -- Assumes nothing.
-use mathlib.Core.Path.{refl, subst, ◌∙◌, ◌≡◌}
-use Prim.Native.Nat.{ℕ, ◌+◌, ◌-◌, ◌≤◌}
-use native.Mathlib.Omega.{arith}
-use lib.ListN.{length, length-set}
-use borrow.Author.Rules.{rules}
-use Rattle.lists.proofs.Packs.{packs_none}
+use mathlib.Core.Path.{◌≡◌}
+use Prim.Native.Nat.{◌-◌, ◌≤◌}
+use lib.ListN.{length}
 use Rattle.lists.specs.Stores.{Packs}
-use Rattle.spread.proofs.Begins.{gather_few, gather_next}
 use Rattle.spread.specs.Wave.{beginnings}
 use Rattle.spread.proofs.gather.Given as goal
 

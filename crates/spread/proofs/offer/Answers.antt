@@ -1,6 +1,5 @@
 -- `spread::offer` meets its contract: the place is written past the tail, and counts where the tail moves (Offers).
 -- Assumes nothing.
-use borrow.Author.Rules.{rules}
 use Rattle.spread.proofs.Offers.{offer_made}
 use Rattle.spread.proofs.offer.Goals as goal
 

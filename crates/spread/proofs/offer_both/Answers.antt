@@ -1,7 +1,6 @@
 -- `spread::offer_both` meets its contract: one offer after the other, with room for both (Offers).
 -- Assumes nothing.
 use native.Mathlib.Omega.{arith}
-use borrow.Author.Rules.{rules}
 use Rattle.spread.proofs.Offers.{both_made, both_room, second_room}
 use Rattle.spread.specs.Wave.{wave, Wave}
 use Rattle.spread.proofs.offer_both.Goals as goal

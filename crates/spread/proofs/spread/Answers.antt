@@ -6,7 +6,6 @@ use mathlib.Core.Path.{◌≡◌}
 use Prim.Native.Nat.{ℕ}
 use native.Mathlib.Omega.{arith}
 use lib.ListN.{length}
-use borrow.Author.Rules.{rules}
 use Rattle.spread.specs.Spread.{Spreadable}
 use Rattle.grid.specs.declared.Neighbours.{Neighbours}
 use Rattle.spread.proofs.spread.Goals as goal

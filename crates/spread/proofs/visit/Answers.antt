@@ -2,7 +2,6 @@
 -- Assumes nothing.
 use mathlib.Core.Path.{◌∙◌}
 use native.Mathlib.Omega.{arith}
-use borrow.Author.Rules.{rules}
 use Rattle.spread.proofs.Pairs.{columns_room, eight_all, falling_room, four_all, rising_room, rows_room}
 use Rattle.spread.specs.Wave.{wave, Wave}
 use Rattle.spread.proofs.visit.Goals as goal
@@ -71,5 +70,5 @@ returns-in-Eight c =
     let a = c.args in let (wide, narrow, margin, on, fits) = c.requires.w_nonzero in
     let eight = c.in-Eight.is in
     eight_all a.w a.here a.mask a.count wide narrow margin a.neighbours (entry (goal.at.returns-in-Eight c).Start)
-        {s₁ = after (goal.at.returns-in-Eight c).After-offer_both-tail}
+    {s₁ = after (goal.at.returns-in-Eight c).After-offer_both-tail}
     c.offer_both-tail.ensures c.offer_both-tail-2.ensures eight c.offer_both-tail-in-Eight.ensures c.offer_both.ensures

@@ -3,14 +3,12 @@
 -- flags have room for it.
 -- Assumes nothing.
 use mathlib.Core.Logic.{inr}
-use mathlib.Core.Path.{refl, ◌∙◌, ◌≡◌}
-use Prim.Native.Nat.{◌+◌, ◌-◌, ◌<◌, ◌≤◌}
+use mathlib.Core.Path.{refl, ◌∙◌}
+use Prim.Native.Nat.{◌+◌, ◌<◌}
 use native.Mathlib.Omega.{arith}
-use lib.ListN.{length, length-set}
-use borrow.Author.Rules.{rules}
+use lib.ListN.{length-set}
 use Rattle.lists.proofs.Puts.{puts_next, puts_none, puts_to}
 use Rattle.lists.specs.Lists.{at}
-use Rattle.lists.specs.Stores.{Puts}
 use Rattle.squares.proofs.Flags.{flag_in, flag-most}
 use Rattle.squares.specs.Squares.{flag}
 use Rattle.squares.proofs.add_flags.Goals as goal

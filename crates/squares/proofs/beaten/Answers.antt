@@ -2,7 +2,6 @@
 -- Assumes nothing.
 use Prim.Native.Nat.{max, min, ◌<◌, ◌≤◌}
 use native.Mathlib.Omega.{arith}
-use borrow.Author.Rules.{rules}
 use borrow.Author.Tests.{le-ltb, lt-ltb}
 use Rattle.squares.proofs.beaten.Goals as goal
 

@@ -1,13 +1,10 @@
 -- `squares::begin_squares` meets its contract.
 -- After c turns the first c entries are the squares that begin there.
 -- Assumes nothing.
-use mathlib.Core.Path.{refl, ◌≡◌}
-use Prim.Native.Nat.{◌+◌, ◌-◌, ◌≤◌}
+use mathlib.Core.Path.{refl}
 use native.Mathlib.Omega.{arith}
-use lib.ListN.{length, length-set}
-use borrow.Author.Rules.{rules}
+use lib.ListN.{length-set}
 use Rattle.lists.proofs.Puts.{puts_next, puts_none, puts_to}
-use Rattle.lists.specs.Stores.{Puts}
 use Rattle.squares.specs.Squares.{square}
 use Rattle.squares.proofs.begin_squares.Goals as goal
 

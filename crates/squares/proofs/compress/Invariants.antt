@@ -1,13 +1,8 @@
 -- `squares::compress` meets its contract: after c turns the pairs of c cells stand at the start.
 -- Assumes nothing.
 use Rattle.lists.specs.Lists.{at}
-use Rattle.squares.proofs.Packing.{Packing, packing_all, packing_next, packing_none, pairs_more, pairs-most, pairs_rise}
-use Rattle.squares.specs.Listing.{pairs_for}
-use borrow.Author.Rules.{rules}
-use mathlib.Core.Path.{◌≡◌, subst}
-use Prim.Native.Nat.{ℕ, ◌+◌, ◌-◌, ◌≤◌}
-use native.Mathlib.Omega.{arith}
-use lib.ListN.{length}
+use Rattle.squares.proofs.Packing.{Packing}
+use Prim.Native.Nat.{◌-◌, ◌≤◌}
 use Rattle.squares.proofs.compress.Given as goal
 
 abbrev pub invariant-loop-c : goal.invariant-loop-c

@@ -1,12 +1,11 @@
 -- `squares::end_rows` meets its contract.
 -- Before e, which ends a row, every end of a row is 13. A turn leads to the end of the next row: between the two none ends.
 -- Assumes nothing.
-use mathlib.Core.Path.{refl, ◌≡◌}
-use Prim.Native.Nat.{◌-◌}
+use mathlib.Core.Path.{refl}
 use native.Mathlib.Omega.{arith}
-use lib.ListN.{length, length-set}
+use lib.ListN.{length-set}
 use borrow.Author.Rules.{rules}
-use Rattle.squares.proofs.RowEnds.{Ending, ending_all, ending_next, ending_none}
+use Rattle.squares.proofs.RowEnds.{ending_all, ending_next, ending_none}
 use Rattle.squares.proofs.end_rows.Goals as goal
 
 pub overflow_sub-e : goal.overflow_sub-e

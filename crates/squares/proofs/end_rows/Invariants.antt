@@ -1,12 +1,10 @@
 -- `squares::end_rows` meets its contract.
 -- Before e, which ends a row, every end of a row is 13. A turn leads to the end of the next row: between the two none ends.
 -- Assumes nothing.
-use mathlib.Core.Path.{refl, ◌≡◌}
+use mathlib.Core.Path.{◌≡◌}
 use Prim.Native.Nat.{◌-◌}
-use native.Mathlib.Omega.{arith}
-use lib.ListN.{length, length-set}
-use borrow.Author.Rules.{rules}
-use Rattle.squares.proofs.RowEnds.{Ending, ending_all, ending_next, ending_none}
+use lib.ListN.{length}
+use Rattle.squares.proofs.RowEnds.{Ending}
 use Rattle.squares.proofs.end_rows.Given as goal
 
 abbrev pub invariant-loop-e : goal.invariant-loop-e

@@ -1,6 +1,5 @@
 -- `squares::flag_sides` meets its contract: the bits of the pairs to the right, and then those of the pairs below.
 -- Assumes nothing.
-use borrow.Author.Rules.{rules}
 use native.Mathlib.Omega.{arith}
 use Rattle.lists.specs.Lists.{at}
 use Rattle.squares.proofs.Flags.{flag_added, flag-most}

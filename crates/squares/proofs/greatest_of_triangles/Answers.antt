@@ -1,6 +1,5 @@
 -- `squares::greatest_of_triangles` meets its contract: the six pairs one after the other. No bit is theirs twice, so their sum is at most 63.
 -- Assumes nothing.
-use borrow.Author.Rules.{rules}
 use Rattle.squares.specs.Squares.{of_triangles}
 use Rattle.squares.proofs.greatest_of_triangles.Goals as goal
 

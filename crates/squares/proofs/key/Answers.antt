@@ -1,7 +1,6 @@
 -- `squares::key` meets its contract.
 -- The height of the crossing is the greater of the two; the two arms of the test of labels.
 -- Assumes nothing.
-use borrow.Author.Rules.{rules}
 use borrow.Author.Tests.{eq-eqb, ne_eqb}
 use Rattle.squares.proofs.key.Goals as goal
 

@@ -3,7 +3,6 @@
 use native.Mathlib.Omega.{arith}
 use lib.ListN.{get_or-replicate}
 use Rattle.squares.proofs.Listing.{flags_asked_for, listed}
-use borrow.Author.Rules.{rules}
 use Rattle.squares.proofs.list_pairs.Goals as goal
 
 pub margined_squares-requires : goal.margined_squares-requires

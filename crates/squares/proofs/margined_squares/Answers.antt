@@ -1,7 +1,6 @@
 -- `squares::margined_squares` meets its contract.
 -- The squares fill the part after the margin, and the margin is as it was.
 -- Assumes nothing.
-use borrow.Author.Rules.{rules}
 use Rattle.squares.proofs.Listing.{part_eights, part_room, squares_margined}
 use Rattle.squares.proofs.margined_squares.Goals as goal
 

@@ -1,7 +1,6 @@
 -- `squares::pack` meets its contract: the entry is written, and then counted or not.
 -- Assumes nothing.
 use mathlib.Core.Path.{refl}
-use borrow.Author.Rules.{rules}
 use Rattle.lists.proofs.Packs.{packs_bit}
 use Rattle.squares.proofs.pack.Goals as goal
 

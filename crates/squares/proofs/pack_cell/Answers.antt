@@ -6,7 +6,6 @@ use Prim.Native.Nat.{ℕ}
 use native.Mathlib.Omega.{arith}
 use Rattle.lists.specs.Stores.{Packs}
 use Rattle.squares.proofs.Packing.{in_order, room_below, room_first, room_left_lem, room_right, room_taken}
-use borrow.Author.Rules.{rules}
 use Rattle.squares.proofs.pack_cell.Goals as goal
 
 pub pack-k1-requires : goal.pack-k1-requires

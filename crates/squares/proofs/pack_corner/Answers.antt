@@ -2,10 +2,9 @@
 -- Assumes nothing.
 use mathlib.Core.List.{append-nil, List, ◌++◌}
 use mathlib.Core.Path.{subst, sym, ◌≡◌}
-use Prim.Native.Nat.{ℕ, ◌+◌}
+use Prim.Native.Nat.{ℕ}
 use native.Mathlib.Omega.{arith}
 use lib.ListN.{length}
-use borrow.Author.Rules.{rules}
 use Rattle.lists.specs.Stores.{Packs}
 use Rattle.squares.specs.Squares.{CornerRoom, counted}
 use Rattle.grid.specs.declared.Neighbours.{Neighbours}

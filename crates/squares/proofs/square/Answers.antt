@@ -2,7 +2,6 @@
 -- Assumes nothing.
 use native.Mathlib.Omega.{arith}
 use Rattle.squares.specs.Squares.{square}
-use borrow.Author.Rules.{rules}
 use Rattle.squares.proofs.square.Goals as goal
 
 pub key-ab-requires : goal.key-ab-requires

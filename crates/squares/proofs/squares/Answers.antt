@@ -1,7 +1,6 @@
 -- `squares::squares` meets its contract.
 -- The squares of all rows but the last, the 8s that were there, and 13 where a row ends.
 -- Assumes nothing.
-use borrow.Author.Rules.{rules}
 use Rattle.squares.proofs.Listing.{squares_filled}
 use Rattle.squares.proofs.squares.Goals as goal
 

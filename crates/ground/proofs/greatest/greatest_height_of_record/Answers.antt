@@ -2,12 +2,9 @@
 -- heights, lifted.
 -- Assumes nothing.
 use mathlib.Core.Path.{refl, ◌∙◌, ◌≡◌}
-use Prim.Native.Nat.{◌-◌, ◌≤◌}
 use native.Mathlib.Omega.{arith}
 use borrow.Author.Rules.{rules}
 use Rattle.ground.proofs.RecordCells.{greatest_lift_next}
-use Rattle.ground.specs.Record.{lifts_in}
-use Rattle.lists.specs.Greatest.{greatest}
 use Rattle.ground.proofs.greatest.greatest_height_of_record.Goals as goal
 
 pub loop-cell-init : goal.loop-cell-init

@@ -1,11 +1,8 @@
 -- `ground::greatest::greatest_height_of_record` meets its contract: after `cell` turns `high` is the greatest of the first `cell`
 -- heights, lifted.
 -- Assumes nothing.
-use mathlib.Core.Path.{refl, ◌∙◌, ◌≡◌}
+use mathlib.Core.Path.{◌≡◌}
 use Prim.Native.Nat.{◌-◌, ◌≤◌}
-use native.Mathlib.Omega.{arith}
-use borrow.Author.Rules.{rules}
-use Rattle.ground.proofs.RecordCells.{greatest_lift_next}
 use Rattle.ground.specs.Record.{lifts_in}
 use Rattle.lists.specs.Greatest.{greatest}
 use Rattle.ground.proofs.greatest.greatest_height_of_record.Given as goal

@@ -1,12 +1,8 @@
 -- `ground::greatest::greatest_mark` meets its contract: after `cell` turns `most` is the greatest of the first `cell` marks.
 -- Assumes nothing.
-use mathlib.Core.Path.{ap, refl, ◌∙◌, ◌≡◌}
+use mathlib.Core.Path.{◌≡◌}
 use Prim.Native.Nat.{◌-◌, ◌≤◌}
-use native.Mathlib.Omega.{arith}
 use lib.ListN.{length}
-use borrow.Author.Rules.{rules}
-use Rattle.lists.proofs.Greatest.{greatest-next}
-use Rattle.lists.proofs.Tab.{tab-is}
 use Rattle.lists.specs.Greatest.{greatest}
 use Rattle.lists.specs.Lists.{at, tab}
 use Rattle.ground.proofs.greatest.greatest_mark.Given as goal

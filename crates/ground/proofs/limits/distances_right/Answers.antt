@@ -1,7 +1,6 @@
 -- `ground::limits::distances_right` meets its contract: the three tests of the code are the definition's.
 -- Assumes nothing.
 use mathlib.Core.Path.{sym, ◌∙◌}
-use borrow.Author.Rules.{rules}
 use borrow.Author.Tests.{eq-eqb, ne_eqb}
 use Rattle.ground.proofs.limits.distances_right.Goals as goal
 

@@ -1,7 +1,6 @@
 -- `ground::limits::has_room` meets its contract: what n cells take fits.
 -- Assumes nothing.
 use native.Mathlib.Omega.{arith}
-use borrow.Author.Rules.{rules}
 use Rattle.ground.proofs.Counting.{room_below}
 use Rattle.ground.proofs.limits.has_room.Goals as goal
 

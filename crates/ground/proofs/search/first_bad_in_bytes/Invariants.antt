@@ -1,12 +1,8 @@
 -- `ground::search::first_bad_in_bytes` meets its contract: the two loops keep that no cell before theirs is bad (Searching).
 -- Assumes nothing.
-use mathlib.Core.Path.{sym, ◌∙◌}
-use Prim.Native.Nat.{◌*◌, ◌+◌, ◌-◌, ◌<◌, ◌≤◌}
-use native.Mathlib.Omega.{arith}
-use borrow.Author.Rules.{rules}
-use Rattle.grid.proofs.Rows.{rows_fit}
-use Rattle.ground.proofs.Searching.{begun, cell_passed, entry-within, found, in_tile, none_found, row_passed, Searching}
-use Rattle.ground.specs.Sought.{bad_in_bytes, bytes_each}
+use Prim.Native.Nat.{◌-◌, ◌≤◌}
+use Rattle.ground.proofs.Searching.{Searching}
+use Rattle.ground.specs.Sought.{bad_in_bytes}
 use Rattle.ground.proofs.search.first_bad_in_bytes.Given as goal
 
 abbrev pub invariant-loop-col : goal.invariant-loop-col

@@ -1,11 +1,7 @@
 -- `ground::search::first_bad_in_list` meets its contract: the two loops keep that no cell before theirs is bad (Searching).
 -- Assumes nothing.
-use mathlib.Core.Path.{sym, ◌∙◌}
-use Prim.Native.Nat.{◌*◌, ◌+◌, ◌-◌, ◌<◌, ◌≤◌}
-use native.Mathlib.Omega.{arith}
-use borrow.Author.Rules.{rules}
-use Rattle.grid.proofs.Rows.{rows_fit}
-use Rattle.ground.proofs.Searching.{begun, cell_passed, found, in_tile, none_found, row_passed, Searching}
+use Prim.Native.Nat.{◌-◌, ◌≤◌}
+use Rattle.ground.proofs.Searching.{Searching}
 use Rattle.ground.specs.Judge.{bad_height}
 use Rattle.ground.proofs.search.first_bad_in_list.Given as goal
 

@@ -1,7 +1,6 @@
 -- `ground::search::is_bad_in_bytes` meets its contract: the four bytes of a cell say its height, or its one byte its mark.
 -- Assumes nothing.
 use native.Mathlib.Omega.{arith}
-use borrow.Author.Rules.{rules}
 use Rattle.ground.proofs.search.is_bad_in_bytes.Goals as goal
 
 pub overflow_mul-cell : goal.overflow_mul-cell

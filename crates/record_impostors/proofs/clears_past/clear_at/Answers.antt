@@ -2,7 +2,6 @@
 -- Assumes nothing.
 use mathlib.Core.Path.{sym}
 use lib.Seq.{set_out}
-use borrow.Author.Rules.{rules}
 use Rattle.record_impostors.proofs.clears_past.clear_at.Goals as goal
 
 pub returns-else-at-marks : goal.returns-else-at-marks

@@ -2,7 +2,6 @@
 -- Assumes nothing.
 use mathlib.Core.Path.{ap, ◌∙◌}
 use lib.ListN.{set}
-use borrow.Author.Rules.{rules}
 use Rattle.records.specs.Calls.{ThreeLists, three_lists}
 use Rattle.record_impostors.proofs.clears_past.read_record.Goals as goal
 

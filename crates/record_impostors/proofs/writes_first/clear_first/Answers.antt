@@ -2,7 +2,6 @@
 -- Assumes nothing.
 use mathlib.Core.Path.{sym}
 use lib.Seq.{set_out}
-use borrow.Author.Rules.{rules}
 use Rattle.record_impostors.proofs.writes_first.clear_first.Goals as goal
 
 pub returns-else-marks-gt0 : goal.returns-else-marks-gt0
