@@ -25,6 +25,7 @@ pub mod manner_laws;
 pub mod mutants;
 pub mod outlets;
 #[cfg(not(feature = "linked"))]
+mod piped;
 pub mod program_run;
 pub mod questions;
 pub mod record_runs;

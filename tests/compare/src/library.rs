@@ -1,4 +1,4 @@
-//! Which library is under test: the linked one, or the second program standing in for it.
+//! Which library is under test: the linked one, the one behind a pipe, or the second program standing in for it.
 
 /// A C call over slices: ground record in, a room to write in, one number back.
 pub type Library = fn(&[u8], &mut [u8]) -> u32;
@@ -33,5 +33,8 @@ pub fn under_test() -> Libraries {
 /// The library under test.
 #[cfg(not(feature = "linked"))]
 pub fn under_test() -> Libraries {
-    SECOND
+    match crate::piped::is_named() {
+        true => crate::piped::LIBRARIES,
+        false => SECOND,
+    }
 }

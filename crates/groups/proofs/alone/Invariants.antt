@@ -1,13 +1,9 @@
 -- `groups::alone` meets its contract: after b turns the list is 0, 1, .., b - 1 and then what it was.
 -- Assumes nothing.
-use mathlib.Core.List.{append-nil, ◌++◌}
-use mathlib.Core.Path.{refl, ◌∙◌, ◌≡◌}
+use mathlib.Core.List.{◌++◌}
+use mathlib.Core.Path.{◌≡◌}
 use Prim.Native.Nat.{◌-◌, ◌≤◌}
-use native.Mathlib.Omega.{arith}
-use lib.ListN.{drop, length, length-set}
-use lib.Seq.{drop-length}
-use borrow.Author.Rules.{rules}
-use Rattle.groups.proofs.Roots.{upto_next}
+use lib.ListN.{drop, length}
 use Rattle.lists.specs.Lists.{upto}
 use Rattle.groups.proofs.alone.Given as goal
 

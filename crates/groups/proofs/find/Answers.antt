@@ -1,13 +1,11 @@
 -- `groups::find` meets its contract. The loop keeps all roots, and the root of x is that of b. Each turn goes to a lesser x.
 -- Assumes nothing.
-use mathlib.Core.Path.{refl, sym, ◌∙◌, ◌≡◌}
+use mathlib.Core.Path.{refl, sym, ◌∙◌}
 use Prim.Native.Nat.{◌<◌}
 use native.Mathlib.Nat.{le_trans}
 use native.Mathlib.Omega.{arith}
 use lib.ListN.{length, length-set}
-use borrow.Author.Rules.{rules}
 use Rattle.groups.proofs.Roots.{down_set, halved, root_self, root_step}
-use Rattle.groups.specs.Groups.{root_of, SameGroups}
 use Rattle.lists.specs.Lists.{at}
 use Rattle.groups.proofs.find.Goals as goal
 

@@ -1,20 +1,15 @@
 -- `groups::find` meets its contract. The loop keeps all roots, and the root of x is that of b. Each turn goes to a lesser x.
 -- Assumes nothing.
-use mathlib.Core.Path.{refl, sym, ◌∙◌, ◌≡◌}
+use mathlib.Core.Path.{◌≡◌}
 use Prim.Native.Nat.{◌<◌}
-use native.Mathlib.Nat.{le_trans}
-use native.Mathlib.Omega.{arith}
-use lib.ListN.{length, length-set}
-use borrow.Author.Rules.{rules}
-use Rattle.groups.proofs.Roots.{down_set, halved, root_self, root_step}
+use lib.ListN.{length}
 use Rattle.groups.specs.Groups.{root_of, SameGroups}
-use Rattle.lists.specs.Lists.{at}
 use Rattle.groups.proofs.find.Given as goal
 
 abbrev pub invariant-loop-x : goal.invariant-loop-x
 invariant-loop-x l =
     (length l.group ≡ length l.initial.group) × (l.x < length l.group) × SameGroups l.initial.group l.group
-        × (root_of l.initial.group l.x ≡ root_of l.initial.group l.b)
+    × (root_of l.initial.group l.x ≡ root_of l.initial.group l.b)
 
 abbrev pub decreases-loop-x : goal.decreases-loop-x
 decreases-loop-x l = l.x

@@ -1,7 +1,6 @@
 -- `groups::hang` meets its contract: the root that is set is the greater of the two, and what it is set to the lesser.
 -- Assumes nothing.
 use native.Mathlib.Omega.{arith}
-use borrow.Author.Rules.{rules}
 use Rattle.groups.proofs.Merging.{hung_over, hung_under}
 use Rattle.groups.proofs.hang.Goals as goal
 

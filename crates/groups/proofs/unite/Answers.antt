@@ -3,7 +3,6 @@
 use Prim.Native.Nat.{◌<◌}
 use native.Mathlib.Omega.{arith}
 use lib.ListN.{length}
-use borrow.Author.Rules.{rules}
 use Rattle.groups.proofs.Merging.{one_already, one-root, other_root, Searched, searched, two_joined}
 use Rattle.groups.specs.Groups.{Root}
 use Rattle.groups.proofs.unite.Goals as goal

@@ -6,7 +6,6 @@ use native.Mathlib.Omega.{arith}
 use Rattle.passes.proofs.Choosing.{chosen-pairs, chosen_room, listable, long_listed, long_sorted, pickable, sortable}
 use Rattle.rules.specs.Land.{rule_by}
 use Rattle.rules.specs.Tile.{tile_land}
-use borrow.Author.Rules.{rules}
 use Rattle.passes.proofs.choose_pairs.Goals as goal
 
 pub list_pairs-count-requires : goal.list_pairs-count-requires

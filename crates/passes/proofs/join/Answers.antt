@@ -1,7 +1,6 @@
 -- `passes::join` meets its contract: it unites the labels of the pair's two cells.
 -- Assumes nothing.
 use native.Mathlib.Omega.{arith}
-use borrow.Author.Rules.{rules}
 use Rattle.pairs.proofs.Pairs.{pair_climbs}
 use Rattle.pairs.specs.Pairs.{greater_of, lesser_of}
 use Rattle.passes.proofs.join.Goals as goal

@@ -1,13 +1,9 @@
 -- `passes::pick_along` meets its contract: after i pairs the picked ones stand at the front, and the groups follow all i.
 -- Assumes nothing.
-use mathlib.Core.Path.{ap, sym, ◌∙◌}
-use Prim.Native.Nat.{◌-◌, ◌<◌, ◌≤◌}
-use native.Mathlib.Omega.{arith}
+use Prim.Native.Nat.{◌-◌, ◌≤◌}
 use lib.ListN.{length}
-use borrow.Author.Rules.{rules}
-use Rattle.lists.proofs.Range.{range_length}
 use Rattle.pairs.specs.Pairs.{crossing_of}
-use Rattle.passes.proofs.PickTurns.{greater_on, labels_in, Picking, picking_all, picking_next, picking_none}
+use Rattle.passes.proofs.PickTurns.{Picking}
 use Rattle.passes.proofs.pick_along.Given as goal
 
 abbrev pub invariant-loop-i : goal.invariant-loop-i
