@@ -5,7 +5,6 @@ use mathlib.Core.Path.{ap, ◌∙◌, ◌≡◌}
 use Prim.Native.Nat.{ℕ}
 use native.Mathlib.Omega.{arith}
 use lib.ListN.{length}
-use borrow.Author.Rules.{rules}
 use Rattle.drainage.proofs.Backwards.{drained_own}
 use Rattle.lists.proofs.Filled.{filled_at}
 use Rattle.lists.specs.Lists.{at}

@@ -4,7 +4,6 @@ use mathlib.Core.List.{List}
 use mathlib.Core.Path.{ap, ◌∙◌, ◌≡◌}
 use Prim.Native.Nat.{ℕ, ◌*◌, ◌+◌, ◌<◌}
 use native.Mathlib.Omega.{arith}
-use borrow.Author.Rules.{rules}
 use Rattle.drainage.proofs.Backwards.{drained_own}
 use Rattle.lists.proofs.Filled.{filled_at}
 use Rattle.lists.proofs.Tab.{tab-at}

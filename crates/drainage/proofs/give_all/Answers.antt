@@ -1,15 +1,11 @@
 -- `drainage::give_all` meets its contract. Between turns the cells from the place on have given (Given).
 -- Assumes nothing.
-use mathlib.Core.List.{List}
 use mathlib.Core.Path.{refl, subst, ◌∙◌, ◌≡◌}
 use Prim.Native.Nat.{ℕ, ◌+◌, ◌-◌, ◌<◌, ◌≤◌}
 use native.Mathlib.Omega.{arith}
 use lib.ListN.{length}
-use borrow.Author.Rules.{rules}
 use Rattle.drainage.proofs.Backwards.{Given, given_all, given_next, given_none, turn_fits}
-use Rattle.drainage.specs.Giving.{Ordered}
 use Rattle.lists.specs.Lists.{at}
-use Rattle.rules.specs.Land.{Land}
 use Rattle.drainage.proofs.give_all.Goals as goal
 use Rattle.drainage.proofs.give_all.Goals.{In-loop-place}
 
@@ -25,7 +21,7 @@ turn c =
     let G = c.requires.by_index.2 in
     turn_fits c.requires.by_index.0 c.requires.by_index.1 c.args.n c.args.order.now c.args.receivers.now G c.args.drainage.now
     c.loop-place.drainage c.loop-place.place (c.loop-place.invariant.2 c.requires.by_index.0 c.requires.by_index.1 G) c.loop-place-test.true
-        c.loop-place.invariant.0
+    c.loop-place.invariant.0
     c.requires.n_in_bounds.1
 
 -- all indices of a turn lie in their lists

@@ -1,14 +1,11 @@
 -- `drainage::give_all` meets its contract. Between turns the cells from the place on have given (Given).
 -- Assumes nothing.
 use mathlib.Core.List.{List}
-use mathlib.Core.Path.{refl, subst, ◌∙◌, ◌≡◌}
-use Prim.Native.Nat.{ℕ, ◌+◌, ◌-◌, ◌<◌, ◌≤◌}
-use native.Mathlib.Omega.{arith}
+use mathlib.Core.Path.{◌≡◌}
+use Prim.Native.Nat.{ℕ, ◌≤◌}
 use lib.ListN.{length}
-use borrow.Author.Rules.{rules}
-use Rattle.drainage.proofs.Backwards.{Given, given_all, given_next, given_none, turn_fits}
+use Rattle.drainage.proofs.Backwards.{Given}
 use Rattle.drainage.specs.Giving.{Ordered}
-use Rattle.lists.specs.Lists.{at}
 use Rattle.rules.specs.Land.{Land}
 use Rattle.drainage.proofs.give_all.Given as goal
 

@@ -1,10 +1,9 @@
 -- `drainage::own_water` meets its contract. After c turns the list is filled with the water of c cells.
 -- Assumes nothing.
 use mathlib.Core.Path.{ap, refl, sym, ◌∙◌, ◌≡◌}
-use Prim.Native.Nat.{ℕ, ◌-◌, ◌≤◌}
+use Prim.Native.Nat.{ℕ}
 use native.Mathlib.Omega.{arith}
 use lib.ListN.{length, length-set}
-use borrow.Author.Rules.{rules}
 use Rattle.lists.proofs.Filled.{filled_next, filled_none}
 use Rattle.lists.specs.Lists.{at, filled}
 use Rattle.drainage.proofs.own_water.Goals as goal

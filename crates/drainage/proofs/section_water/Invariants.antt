@@ -1,14 +1,10 @@
 -- `drainage::section_water` meets its contract. After c turns the list is filled with the water of c cells, read where it stands.
 -- Assumes nothing.
-use mathlib.Core.Path.{ap, refl, sym, ◌∙◌, ◌≡◌}
-use Prim.Native.Nat.{ℕ, ◌*◌, ◌+◌, ◌-◌, ◌≤◌}
-use native.Mathlib.Omega.{arith}
-use lib.ListN.{length, length-set}
-use borrow.Author.Rules.{rules}
-use Rattle.lists.proofs.Filled.{filled_next, filled_none}
-use Rattle.lists.proofs.Tab.{tab-at}
+use mathlib.Core.Path.{◌≡◌}
+use Prim.Native.Nat.{◌-◌, ◌≤◌}
+use lib.ListN.{length}
 use Rattle.lists.specs.Lists.{at, filled}
-use Rattle.sections.specs.LittleEndian.{number_at, numbers_at}
+use Rattle.sections.specs.LittleEndian.{numbers_at}
 use Rattle.drainage.proofs.section_water.Given as goal
 
 abbrev pub invariant-loop-c : goal.invariant-loop-c

@@ -1,11 +1,9 @@
 -- `links::add` meets its contract: at turn c the cells before c - after have what their neighbours add, and the others are as they
 -- were, so that each sum fits.
 -- Assumes nothing.
-use Prim.Native.Nat.{max, ◌+◌, ◌-◌, ◌≤◌}
 use native.Mathlib.Omega.{arith}
 use borrow.Author.Rules.{rules}
 use Rattle.links.proofs.FlatPasses.{pass_all, pass_fits, pass_next, pass_none}
-use Rattle.links.specs.Leads.{Added, added_to}
 use Rattle.links.proofs.add.Goals as goal
 
 pub loop-c-init : goal.loop-c-init

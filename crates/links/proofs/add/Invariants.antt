@@ -2,9 +2,6 @@
 -- were, so that each sum fits.
 -- Assumes nothing.
 use Prim.Native.Nat.{max, ◌+◌, ◌-◌, ◌≤◌}
-use native.Mathlib.Omega.{arith}
-use borrow.Author.Rules.{rules}
-use Rattle.links.proofs.FlatPasses.{pass_all, pass_fits, pass_next, pass_none}
 use Rattle.links.specs.Leads.{Added, added_to}
 use Rattle.links.proofs.add.Given as goal
 

@@ -37,7 +37,7 @@ own_room own =
 rows_room : (rows : After-add_both) → Fits (after-rows (goal.at.After-add_both rows).Start) rows.args.n rows.add_both.new.links
 rows_room rows =
     fits_second (in_rows (goal.at.After-add_both rows).Start) (after-rows (goal.at.After-add_both rows).Start)
-        (own_room (goal.at.After-add_both rows).After-own_weights) rows.add_both.ensures
+    (own_room (goal.at.After-add_both rows).After-own_weights) rows.add_both.ensures
 
 -- what is there once the corners are added, too
 all-linked : {new : List ℕ} (columns : After-add_both-2) → let a = columns.args in

@@ -1,9 +1,8 @@
 -- `links::link_pairs` meets its contract: before place i the masks say the links that were there and those of the first i pairs.
 -- Assumes nothing.
-use mathlib.Core.Bool.{Bool}
 use mathlib.Core.List.{List}
 use mathlib.Core.Path.{ap, refl, ◌∙◌, ◌≡◌}
-use Prim.Native.Nat.{ℕ, ◌-◌, ◌≤◌}
+use Prim.Native.Nat.{ℕ}
 use native.Mathlib.Omega.{arith}
 use lib.ListN.{length, take}
 use lib.Seq.{take-length}
@@ -12,7 +11,7 @@ use Rattle.grid.specs.Masks.{mask_of}
 use Rattle.grid.specs.Window.{around}
 use Rattle.lists.specs.Lists.{filled}
 use Rattle.links.proofs.AddedLinks.{next_pair, none_yet, one_more}
-use Rattle.links.specs.PairLinks.{Addable, with_pairs}
+use Rattle.links.specs.PairLinks.{with_pairs}
 use Rattle.links.proofs.link_pairs.Goals as goal
 
 pub loop-i-init : goal.loop-i-init

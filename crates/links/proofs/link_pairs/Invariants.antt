@@ -1,17 +1,12 @@
 -- `links::link_pairs` meets its contract: before place i the masks say the links that were there and those of the first i pairs.
 -- Assumes nothing.
 use mathlib.Core.Bool.{Bool}
-use mathlib.Core.List.{List}
-use mathlib.Core.Path.{ap, refl, ◌∙◌, ◌≡◌}
+use mathlib.Core.Path.{◌≡◌}
 use Prim.Native.Nat.{ℕ, ◌-◌, ◌≤◌}
-use native.Mathlib.Omega.{arith}
 use lib.ListN.{length, take}
-use lib.Seq.{take-length}
-use borrow.Author.Rules.{rules}
 use Rattle.grid.specs.Masks.{mask_of}
 use Rattle.grid.specs.Window.{around}
 use Rattle.lists.specs.Lists.{filled}
-use Rattle.links.proofs.AddedLinks.{next_pair, none_yet, one_more}
 use Rattle.links.specs.PairLinks.{Addable, with_pairs}
 use Rattle.links.proofs.link_pairs.Given as goal
 
@@ -20,7 +15,7 @@ invariant-loop-i l =
     (l.i ≤ length l.pairs)
     × (length l.links ≡ length l.initial.links)
     × ((n : ℕ) → (E : ℕ → ℕ → Bool) → Addable l.w n E l.pairs l.initial.links → l.links ≡ filled
-        (mask_of around l.w n (with_pairs l.w (take l.i l.pairs) E)) n l.initial.links)
+    (mask_of around l.w n (with_pairs l.w (take l.i l.pairs) E)) n l.initial.links)
 
 abbrev pub decreases-loop-i : goal.decreases-loop-i
 decreases-loop-i l = length l.pairs - l.i

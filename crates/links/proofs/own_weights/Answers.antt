@@ -1,10 +1,9 @@
 -- `links::own_weights` meets its contract: before turn c the first c entries are the weights.
 -- Assumes nothing.
 use mathlib.Core.Path.{ap, refl, sym, ◌∙◌, ◌≡◌}
-use Prim.Native.Nat.{ℕ, ◌-◌, ◌≤◌}
+use Prim.Native.Nat.{ℕ}
 use native.Mathlib.Omega.{arith}
-use lib.ListN.{length, length-set}
-use borrow.Author.Rules.{rules}
+use lib.ListN.{length-set}
 use Rattle.lists.proofs.Filled.{filled_next, filled_none}
 use Rattle.lists.specs.Lists.{at, filled}
 use Rattle.links.proofs.own_weights.Goals as goal

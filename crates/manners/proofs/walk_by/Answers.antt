@@ -2,7 +2,6 @@
 -- Assumes nothing.
 use native.Mathlib.Omega.{arith}
 use lib.ListN.{length}
-use borrow.Author.Rules.{rules}
 use Rattle.manners.proofs.Walks.{levels-carved, tile_again, tile_walked}
 use Rattle.rules.specs.Carving.{receivers}
 use Rattle.rules.specs.Land.{Land, rule_by}

@@ -3,7 +3,6 @@
 use mathlib.Core.Path.{sym}
 use lib.ListN.{length}
 use lib.Seq.{length-take-le}
-use borrow.Author.Rules.{rules}
 use Rattle.manners.proofs.Walks.{tile_walked}
 use Rattle.rules.specs.Land.{Land, rule_by}
 use Rattle.rules.specs.Network.{receivers_by}

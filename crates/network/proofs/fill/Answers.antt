@@ -115,10 +115,11 @@ work_out-requires c =
 pub drop_levels-requires : goal.drop_levels-requires
 drop_levels-requires c =
     let at-place = (goal.at.drop_levels-requires c).After-lift_heights in
-    let at-place-2 = (goal.at.drop_levels-requires c).After-lift_heights, in
-    let f : count at-place ≤ length (after (goal.at.drop_levels-requires c).After-work_out).levels = omega (arith, few at-place, c.work_out.auto.levels) in
+    let at-place-2 = (goal.at.drop_levels-requires c).After-work_out in
+    let f : count at-place ≤ length (after at-place-2).levels =
+        omega (arith, few at-place, c.work_out.auto.levels) in
     let droppable = levels_droppable c.args.neighbours c.args.manner (ground at-place) (good at-place)
-        (levels-here (goal.at.drop_levels-requires c).After-work_out) in
+        (levels-here at-place-2) in
     (f, omega (arith, counted at-place, c.requires.1), droppable)
 
 pub returns : goal.returns

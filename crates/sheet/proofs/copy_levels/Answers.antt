@@ -1,8 +1,8 @@
 -- `sheet::copy_levels` meets its contract: before turn c the first c levels stand after the margin.
 -- Assumes nothing.
-use Rattle.std.proofs.Common.{◌≡◌, ℕ, ◌-◌, ◌≤◌, List, length, sym, refl, ap, ◌∙◌, arith, length-set, rules}
+use Rattle.std.proofs.Common.{◌≡◌, ℕ, List, length, sym, refl, ap, ◌∙◌, arith, length-set, rules}
 use Rattle.lists.proofs.Tab.{tab-is}
-use Rattle.lists.specs.Lists.{at, stored, tab}
+use Rattle.lists.specs.Lists.{at, stored}
 use Rattle.sheet.proofs.Margins.{stored-none, stored_put}
 use Rattle.sheet.proofs.copy_levels.Goals as goal
 

@@ -1,9 +1,7 @@
 -- `sheet::copy_levels` meets its contract: before turn c the first c levels stand after the margin.
 -- Assumes nothing.
-use Rattle.std.proofs.Common.{◌≡◌, ℕ, ◌-◌, ◌≤◌, List, length, sym, refl, ap, ◌∙◌, arith, length-set, rules}
-use Rattle.lists.proofs.Tab.{tab-is}
+use Rattle.std.proofs.Common.{◌≡◌, ◌-◌, ◌≤◌, length}
 use Rattle.lists.specs.Lists.{at, stored, tab}
-use Rattle.sheet.proofs.Margins.{stored-none, stored_put}
 use Rattle.sheet.proofs.copy_levels.Given as goal
 
 abbrev pub invariant-loop-c : goal.invariant-loop-c

@@ -1,6 +1,6 @@
 -- `sheet::find_lowest` meets its contract: the first n masks and the levels with a margin are what both passes ask for (Lowering).
 -- Assumes nothing.
-use Rattle.std.proofs.Common.{ℕ, length, take, replicate, sym, arith, rules}
+use Rattle.std.proofs.Common.{ℕ, length, take, replicate, sym, arith}
 use lib.ListN.{length-replicate}
 use Rattle.lists.proofs.Filled.{filled-take}
 use Rattle.sheet.proofs.Lowering.{Laid, levelled, likes_are, lowest_are, masks_length}

@@ -1,6 +1,6 @@
 -- `sheet::first_count` meets its contract. The arms of the tests.
 -- Assumes nothing.
-use Rattle.std.proofs.Common.{sym, rules, eq-eqb, ne_eqb}
+use Rattle.std.proofs.Common.{sym, eq-eqb, ne_eqb}
 use Rattle.sheet.proofs.first_count.Goals as goal
 
 pub returns-then-is_outlet : goal.returns-then-is_outlet

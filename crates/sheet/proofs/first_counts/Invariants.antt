@@ -1,8 +1,7 @@
 -- `sheet::first_counts` meets its contract: before turn c the first c cells have their counts.
 -- Assumes nothing.
-use Rattle.std.proofs.Common.{◌≡◌, ℕ, ◌-◌, ◌≤◌, length, sym, refl, ap, ◌∙◌, arith, length-set, rules}
+use Rattle.std.proofs.Common.{◌≡◌, ◌-◌, ◌≤◌, length}
 use Rattle.lists.specs.Lists.{stored, tab}
-use Rattle.sheet.proofs.Margins.{stored-none, stored_put}
 use Rattle.sheet.specs.LevelSteps.{first_count}
 use Rattle.sheet.proofs.first_counts.Given as goal
 

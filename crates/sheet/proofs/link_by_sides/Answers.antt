@@ -1,6 +1,5 @@
 -- `sheet::link_by_sides` meets its contract: 4,096 weights are enough.
 -- Assumes nothing.
-use Rattle.std.proofs.Common.{rules}
 use Rattle.sheet.proofs.Linked.{weights_room}
 use Rattle.sheet.proofs.link_by_sides.Goals as goal
 

@@ -1,6 +1,6 @@
 -- `sheet::link_sheet` meets its contract: each call is that of the neighbours asked for.
 -- Assumes nothing.
-use Rattle.std.proofs.Common.{subst, rules}
+use Rattle.std.proofs.Common.{subst}
 use Rattle.sheet.specs.SheetLinks.{Carved}
 use Rattle.grid.specs.declared.Neighbours.{Neighbours}
 use Rattle.sheet.proofs.link_sheet.Goals as goal

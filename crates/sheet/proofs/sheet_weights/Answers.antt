@@ -1,6 +1,6 @@
 -- `sheet::sheet_weights` meets its contract: what the first part leaves is what the second asks for (Lowering).
 -- Assumes nothing.
-use Rattle.std.proofs.Common.{length, take, sym, rules}
+use Rattle.std.proofs.Common.{length, take, sym}
 use Rattle.sheet.proofs.Lowering.{lead-filled, lowered}
 use Rattle.sheet.specs.SheetLinks.{Lowered}
 use Rattle.sheet.proofs.sheet_weights.Goals as goal

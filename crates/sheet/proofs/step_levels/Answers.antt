@@ -1,6 +1,6 @@
 -- `sheet::step_levels` meets its contract: spreading gives each cell's count (Counted), and the weights by counts are those of sheet flow (Led).
 -- Assumes nothing.
-use Rattle.std.proofs.Common.{ℕ, ◌+◌, ◌≤◌, List, length, replicate, arith, rules}
+use Rattle.std.proofs.Common.{ℕ, ◌+◌, ◌≤◌, List, length, replicate, arith}
 use lib.ListN.{length-replicate}
 use Rattle.sheet.proofs.Counted.{counted, spreadable, level}
 use Rattle.sheet.proofs.Led.{leads-filled}

@@ -1,6 +1,6 @@
 -- `sheet::step_weights` meets its contract: before turn c the first c cells have their weights, and those from c on are as they were.
 -- Assumes nothing.
-use Rattle.std.proofs.Common.{◌≡◌, ℕ, ◌+◌, ◌-◌, ◌≤◌, length, sym, refl, ap, ◌∙◌, arith, length-set, rules}
+use Rattle.std.proofs.Common.{◌≡◌, ℕ, ◌+◌, length, sym, refl, ap, ◌∙◌, arith, length-set, rules}
 use Rattle.lists.proofs.Filled.{filled_none, filled_past, filled_put}
 use Rattle.lists.specs.Lists.{at, filled}
 use Rattle.sheet.specs.LevelSteps.{lead_weight}

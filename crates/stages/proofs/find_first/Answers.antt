@@ -3,7 +3,6 @@
 use mathlib.Core.Path.{◌≡◌}
 use native.Mathlib.Omega.{arith}
 use lib.ListN.{length}
-use borrow.Author.Rules.{rules}
 use Rattle.first_receivers.specs.Weights.{Weighed}
 use Rattle.links.specs.Leads.{Leading}
 use Rattle.rules.specs.FirstWays.{first_receiver}

@@ -3,7 +3,6 @@
 use mathlib.Core.Path.{ap, refl, ◌∙◌}
 use native.Mathlib.Omega.{arith}
 use lib.ListN.{length}
-use borrow.Author.Rules.{rules}
 use Rattle.basins.proofs.Numbered.{labels_marked}
 use Rattle.basins.specs.Jumps.{FirstReceivers}
 use Rattle.lists.proofs.Filled.{filled_again}

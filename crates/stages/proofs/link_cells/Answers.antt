@@ -1,6 +1,5 @@
 -- `stages::link_cells` meets its contract: of 4,226 entries the middle 4,096 are lent for the links.
 -- Assumes nothing.
-use borrow.Author.Rules.{rules}
 use Rattle.walk.proofs.LinkMargins.{margin}
 use Rattle.stages.proofs.link_cells.Goals as goal
 

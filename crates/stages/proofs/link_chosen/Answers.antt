@@ -5,7 +5,6 @@ use mathlib.Core.Path.{sym}
 use Prim.Native.Nat.{ℕ}
 use lib.ListN.{length, take}
 use lib.Seq.{length-take-le}
-use borrow.Author.Rules.{rules}
 use Rattle.grid.specs.Masks.{joined}
 use Rattle.passes.specs.Choosing.{ChosenPairs}
 use Rattle.rules.specs.FirstWays.{first_receiver}

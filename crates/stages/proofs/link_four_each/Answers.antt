@@ -1,7 +1,6 @@
 -- `stages::link_four_each` meets its contract: at most 4,096 cells have room for four pairs each.
 -- Assumes nothing.
 use native.Mathlib.Omega.{arith}
-use borrow.Author.Rules.{rules}
 use Rattle.stages.proofs.link_four_each.Goals as goal
 
 pub link_chosen-requires : goal.link_chosen-requires

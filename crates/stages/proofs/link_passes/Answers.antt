@@ -4,7 +4,6 @@ use mathlib.Core.Path.{subst}
 use Rattle.rules.specs.Land.{rule_by}
 use Rattle.stages.specs.Linking.{Linkable}
 use Rattle.grid.specs.declared.Neighbours.{Neighbours}
-use borrow.Author.Rules.{rules}
 use Rattle.stages.proofs.link_passes.Goals as goal
 
 pub link_two_each-requires : goal.link_two_each-requires

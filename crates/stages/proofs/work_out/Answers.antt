@@ -3,7 +3,6 @@
 use mathlib.Core.Path.{◌≡◌}
 use native.Mathlib.Omega.{arith}
 use lib.ListN.{length}
-use borrow.Author.Rules.{rules}
 use Rattle.drainage.specs.Giving.{Ordered}
 use Rattle.rules.specs.Land.{Land, rule_by}
 use Rattle.rules.specs.Network.{receivers_by}

@@ -38,7 +38,7 @@ loop-cell-preserved c =
     let k = c.loop-cell.more in
     let away : NoneBelow (back_after r h) (k + 1) =
     below_more (λ j. back_after r h j ≡ false) k c.loop-cell.invariant.1
-        (ne_eqb (repeat (suc k) (at r) h) h (λ e. c.loop-cell-test.true (c.loop-cell.invariant.0 ∙ e))) in
+    (ne_eqb (repeat (suc k) (at r) h) h (λ e. c.loop-cell-test.true (c.loop-cell.invariant.0 ∙ e))) in
     (ap (at r) c.loop-cell.invariant.0 ∙ rw add-one (sym (repeat-last (at r) (suc k) h)), away, not_yet r h (k + 1) c.requires away)
 
 pub returns : goal.returns

@@ -22,7 +22,7 @@ pub returns-then-receivers-index : goal.returns-then-receivers-index
 returns-then-receivers-index c =
     let a = c.args in
     sym (c.loop-limit.invariant.2 ∙ trace_from_outside a.receivers.now (a.limit - c.loop-limit.steps) c.loop-limit.steps c.loop-limit.cell
-        c.if-receivers-index.true)
+    c.if-receivers-index.true)
 
 pub returns-then-entry-cell : goal.returns-then-entry-cell
 returns-then-entry-cell c =

@@ -3,7 +3,7 @@
 -- cell, its receiver and its room on the stack are known (Tops), and so every index is in its list; with four neighbours its mask has no
 -- corners (Asked). Turns keeps the invariant.
 -- Assumes nothing.
-use Rattle.std.proofs.Common.{ℕ, ◌+◌, ◌-◌, ◌<◌, ◌≤◌, List, length, refl, arith, rules}
+use Rattle.std.proofs.Common.{ℕ, ◌+◌, ◌<◌, ◌≤◌, length, refl, arith}
 use Rattle.grid.specs.Window.{around}
 use Rattle.lists.specs.Lists.{at}
 use Rattle.rules.specs.Land.{rule_by}
@@ -12,8 +12,8 @@ use Rattle.walk.proofs.Asked.{mask-asked}
 use Rattle.walk.proofs.Midst.{begin, finish, Midst, still_room}
 use Rattle.walk.proofs.Tops.{bits_fit, cell_on, parts, receiver_there, room, top}
 use Rattle.walk.proofs.Turns.{turn}
-use Rattle.walk.specs.Climb.{cell_in, MaskAsked, mask_in, ones, Ready, receiver_in}
-use Rattle.walk.specs.Walk.{lent, Lent, Margin, LentHolds}
+use Rattle.walk.specs.Climb.{cell_in, MaskAsked, mask_in, ones, receiver_in}
+use Rattle.walk.specs.Walk.{lent, Lent, LentHolds}
 use Rattle.walk.proofs.climb.Goals as goal
 use Rattle.walk.proofs.climb.Goals.{At-loop-top}
 

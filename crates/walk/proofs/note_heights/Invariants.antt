@@ -1,7 +1,6 @@
 -- `walk::note_heights` meets its contract: between turns the levels of the cells before c are their heights.
 -- Assumes nothing.
-use Rattle.std.proofs.Common.{◌≡◌, ℕ, ◌-◌, ◌≤◌, length, sym, refl, ap, ◌∙◌, arith, length-set, rules}
-use Rattle.lists.proofs.Filled.{filled_next, filled_none}
+use Rattle.std.proofs.Common.{◌≡◌, ◌-◌, ◌≤◌, length}
 use Rattle.lists.specs.Lists.{at, filled}
 use Rattle.walk.proofs.note_heights.Given as goal
 

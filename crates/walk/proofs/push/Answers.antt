@@ -1,6 +1,6 @@
 -- `walk::push` meets its contract: what stands from the new top on is the entry where its bit is 1, and what stood there (Pushing).
 -- Assumes nothing.
-use Rattle.std.proofs.Common.{◌≡◌, ◌+◌, ◌-◌, arith, rules}
+use Rattle.std.proofs.Common.{◌≡◌, ◌+◌, ◌-◌, arith}
 use Rattle.walk.proofs.Pushing.{kept_push}
 use Rattle.walk.proofs.push.Goals as goal
 

@@ -1,10 +1,10 @@
 -- `walk::push_outlets` meets its contract.
 -- Between turns the outlets from cell c on are pushed (Begins): the top is no lower than c, so there is room for one more.
 -- Assumes nothing.
-use Rattle.std.proofs.Common.{◌≡◌, ℕ, ◌+◌, ◌-◌, ◌*◌, ◌≤◌, Bool, cond, List, ◌++◌, map, length, drop, sym, refl, ap, ◌∙◌, arith, rules}
+use Rattle.std.proofs.Common.{◌≡◌, ℕ, ◌+◌, ◌-◌, ◌*◌, Bool, cond, List, ◌++◌, map, length, drop, sym, refl, ap, ◌∙◌, arith}
 use Rattle.lists.specs.Lists.{keep, upto}
 use Rattle.rules.specs.Ground.{is_outlet}
-use Rattle.walk.proofs.Begins.{Begun, begun_next}
+use Rattle.walk.proofs.Begins.{begun_next}
 use Rattle.walk.proofs.Outlets.{outlets-all, outlets_few, outlets-none, outlets_from}
 use Rattle.walk.specs.Climb.{outlet_entry}
 use Rattle.walk.proofs.push_outlets.Goals as goal

@@ -1,7 +1,7 @@
 -- `walk::push_row` meets its contract: three entries, the last one first, each pushed where its bit is 1; of four neighbours the corners' bits
 -- are 0, and the one in the middle is pushed alone.
 -- Assumes nothing.
-use Rattle.std.proofs.Common.{ℕ, ◌/◌, ◌%◌, List, [], ◌∷◌, ◌++◌, drop, sym, refl, ap, ◌∙◌, subst, arith, rules}
+use Rattle.std.proofs.Common.{ℕ, ◌/◌, ◌%◌, List, [], ◌∷◌, ◌++◌, drop, sym, refl, ap, ◌∙◌, subst, arith}
 use Rattle.walk.proofs.InRow.{halved, ones-row, row_middle}
 use Rattle.walk.proofs.Pushing.{kept_of_push}
 use Rattle.walk.specs.Climb.{one_of, RowAsked}

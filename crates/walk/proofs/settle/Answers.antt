@@ -1,6 +1,6 @@
 -- `walk::settle` meets its contract: three stores, each of what its function gives.
 -- Assumes nothing.
-use Rattle.std.proofs.Common.{ℕ, Bool, cond, set, refl, ap, ◌∙◌, rules}
+use Rattle.std.proofs.Common.{ℕ, Bool, cond, set, refl, ap, ◌∙◌}
 use Rattle.lists.specs.Lists.{at}
 use Rattle.rules.specs.Network.{is_wet}
 use Rattle.walk.proofs.settle.Goals as goal

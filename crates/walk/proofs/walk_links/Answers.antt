@@ -1,7 +1,7 @@
 -- `walk::walk_links` meets its contract: with the outlets' entries on the stack and heights in the place of levels the walk may begin
 -- (Begins), and what it leaves of those lists it leaves of the lists before.
 -- Assumes nothing.
-use Rattle.std.proofs.Common.{◌≡◌, length, arith, rules}
+use Rattle.std.proofs.Common.{◌≡◌, length, arith}
 use Rattle.walk.proofs.Begins.{ready, walked_from}
 use Rattle.walk.proofs.walk_links.Goals as goal
 
