@@ -1,6 +1,5 @@
 -- `askvimur::askvimur_network` meets its contract: the answer of the call, packed.
 -- Assumes nothing.
-use borrow.Author.Rules.{rules}
 use Rattle.network_record.proofs.ForC.{packable, packed}
 use Rattle.grid.specs.declared.Neighbours.TheVariants.{Four}
 use Rattle.rules.specs.declared.Manner.TheVariants.{Carve}

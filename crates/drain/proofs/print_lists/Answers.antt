@@ -4,7 +4,6 @@ use mathlib.Core.List.{List}
 use mathlib.Core.Path.{◌≡◌}
 use Prim.Native.Nat.{ℕ, ◌*◌, ◌-◌}
 use lib.ListN.{replicate, take}
-use borrow.Author.Rules.{rules}
 use Rattle.drain.proofs.Printing.{printable, text_is}
 use Rattle.ground.specs.Record.{ground_in}
 use Rattle.lists.specs.Lists.{stretch}

@@ -1,10 +1,9 @@
 -- `network::drop_levels` meets its contract: after i turns the first i entries are the first i levels, dropped.
 -- Assumes nothing.
-use mathlib.Core.List.{map, ◌++◌}
 use mathlib.Core.Path.{refl, subst, ◌∙◌, ◌≡◌}
-use Prim.Native.Nat.{ℕ, ◌-◌, ◌≤◌}
+use Prim.Native.Nat.{ℕ, ◌≤◌}
 use native.Mathlib.Omega.{arith}
-use lib.ListN.{drop, length, length-set, length-take, take}
+use lib.ListN.{length-set, length-take, take}
 use lib.Seq.{get_or-take}
 use mir.Facts.{to_z-of_z}
 use mir.Syntax.{w32}

@@ -6,7 +6,6 @@ use Prim.Native.Nat.{ℕ, ◌≤◌}
 use native.Mathlib.Omega.{arith}
 use lib.ListN.{length, replicate, take}
 use lib.Seq.{length-take-le}
-use borrow.Author.Rules.{rules}
 use Rattle.ground.proofs.Acceptance.{good_few}
 use Rattle.ground.specs.Good.{Good}
 use Rattle.ground.specs.Record.{ground_of_lists}
@@ -65,13 +64,13 @@ worked c =
 levels-here : (c : After-work_out)
     → let a = c.args in
     take (count (goal.at.After-work_out c).After-lift_heights) (after c).levels ≡
-        (lifted_network_by a.neighbours a.manner (ground (goal.at.After-work_out c).After-lift_heights)).levels
+    (lifted_network_by a.neighbours a.manner (ground (goal.at.After-work_out c).After-lift_heights)).levels
 levels-here c =
     let a = c.args in
     let net = lifted_network_by a.neighbours a.manner (ground (goal.at.After-work_out c).After-lift_heights) in
     let full =
     subst (λ (k : ℕ). Full k net) (sym (counted (goal.at.After-work_out c).After-lift_heights))
-        (network_full a.neighbours a.manner (ground (goal.at.After-work_out c).After-lift_heights) (good (goal.at.After-work_out c).After-lift_heights)) in
+    (network_full a.neighbours a.manner (ground (goal.at.After-work_out c).After-lift_heights) (good (goal.at.After-work_out c).After-lift_heights)) in
     ap (λ (s : Network ℕ). s.levels) (first_of_onto (count (goal.at.After-work_out c).After-lift_heights) net (before c) full (worked c))
 
 pub lift_heights-requires : goal.lift_heights-requires
@@ -117,9 +116,9 @@ drop_levels-requires c =
     let at-place = (goal.at.drop_levels-requires c).After-lift_heights in
     let at-place-2 = (goal.at.drop_levels-requires c).After-work_out in
     let f : count at-place ≤ length (after at-place-2).levels =
-        omega (arith, few at-place, c.work_out.auto.levels) in
+    omega (arith, few at-place, c.work_out.auto.levels) in
     let droppable = levels_droppable c.args.neighbours c.args.manner (ground at-place) (good at-place)
-        (levels-here at-place-2) in
+    (levels-here at-place-2) in
     (f, omega (arith, counted at-place, c.requires.1), droppable)
 
 pub returns : goal.returns

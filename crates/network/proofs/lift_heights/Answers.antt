@@ -2,7 +2,7 @@
 -- Assumes nothing.
 use mathlib.Core.List.{List, map, ◌++◌}
 use mathlib.Core.Path.{ap, refl, ◌∙◌, ◌≡◌}
-use Prim.Native.Nat.{ℕ, ◌-◌, ◌≤◌}
+use Prim.Native.Nat.{ℕ}
 use native.Mathlib.Omega.{arith}
 use lib.IntN.{pos, ℤ}
 use lib.ListN.{drop, get_or, length, length-set, take}
@@ -12,7 +12,7 @@ use mir.Syntax.{w32}
 use mir.Val.{SFits}
 use borrow.Author.Rules.{rules}
 use Rattle.lists.proofs.Overwrite.{overwrite-map}
-use Rattle.lists.specs.Lists.{at, overwrite}
+use Rattle.lists.specs.Lists.{overwrite}
 use Rattle.network.proofs.Lifts.{mapped_all}
 use Rattle.rules.specs.Ground.{lifted}
 use Rattle.network.proofs.lift_heights.Goals as goal

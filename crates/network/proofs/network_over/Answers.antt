@@ -4,10 +4,8 @@ use mathlib.Core.Path.{refl, sym, ◌∙◌, ◌≡◌}
 use Prim.Native.Nat.{◌*◌, ◌+◌}
 use native.Mathlib.Omega.{arith}
 use lib.IntN.{ℤ}
-use borrow.Author.Rules.{rules}
 use borrow.Author.Tests.{leb-true}
 use Rattle.ground.proofs.Acceptance.{lists_accepted}
-use Rattle.ground.specs.Accepted.{AcceptedLists}
 use Rattle.ground.specs.Judge.{judge_lists}
 use Rattle.ground.specs.Record.{ground_of_lists}
 use Rattle.network.specs.Call.{network_holds}

@@ -1,6 +1,5 @@
 -- `network::shortest_length` meets its contract: the least of six lengths.
 -- Assumes nothing.
-use borrow.Author.Rules.{rules}
 use Rattle.network.proofs.shortest_length.Goals as goal
 
 pub returns : goal.returns

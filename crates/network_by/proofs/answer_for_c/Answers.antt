@@ -2,7 +2,6 @@
 -- Assumes nothing.
 use mathlib.Core.Path.{subst}
 use Prim.Native.Nat.{◌≤◌}
-use borrow.Author.Rules.{rules}
 use Rattle.network_by.specs.ReadAnswer.{network_length}
 use Rattle.network_by.specs.declared.NetworkAnswer.{NetworkAnswer}
 use Rattle.network_by.proofs.answer_for_c.Goals as goal

@@ -1,7 +1,6 @@
 -- `network_by::asked_for` meets its contract: 4, 8, or neither, and then the manner.
 -- Assumes nothing.
 use mathlib.Core.Path.{refl}
-use borrow.Author.Rules.{rules}
 use borrow.Author.Tests.{eq-eqb, ne_eqb}
 use Rattle.network_by.proofs.asked_for.Goals as goal
 

@@ -3,7 +3,6 @@
 -- Assumes nothing.
 use mathlib.Core.Path.{sym, ◌∙◌}
 use lib.IntN.{ℤ}
-use borrow.Author.Rules.{rules}
 use Rattle.ground.specs.Judge.{judge_lists}
 use Rattle.ground.specs.Record.{ground_of_lists}
 use Rattle.network.specs.Call.{left, network_holds}
@@ -28,7 +27,7 @@ returns-in-NoCount c =
     let at-place = (goal.at.returns-in-NoCount c).After-asked_for-asked in
     let a = c.args in
     count_refused a.count a.manner (judge_lists (network_holds (before at-place)) (ground at-place))
-        (λ N M j. left j (network_by N M (ground at-place)) (before at-place))
+    (λ N M j. left j (network_by N M (ground at-place)) (before at-place))
     (before at-place) (sym c.in-NoCount.is ∙ c.asked_for-asked.ensures)
 
 pub returns-in-NoManner : goal.returns-in-NoManner
@@ -36,7 +35,7 @@ returns-in-NoManner c =
     let at-place = (goal.at.returns-in-NoManner c).After-asked_for-asked in
     let a = c.args in
     manner_refused a.count a.manner (judge_lists (network_holds (before at-place)) (ground at-place))
-        (λ N M j. left j (network_by N M (ground at-place)) (before at-place))
+    (λ N M j. left j (network_by N M (ground at-place)) (before at-place))
     (before at-place) (sym c.in-NoManner.is ∙ c.asked_for-asked.ensures)
 
 pub returns-in-For : goal.returns-in-For
@@ -44,5 +43,5 @@ returns-in-For c =
     let at-place = (goal.at.returns-in-For c).After-asked_for-asked in
     let a = c.args in
     asked-taken a.count a.manner (judge_lists (network_holds (before at-place)) (ground at-place))
-        (λ N M j. left j (network_by N M (ground at-place)) (before at-place))
+    (λ N M j. left j (network_by N M (ground at-place)) (before at-place))
     (before at-place) c.in-For.neighbours c.in-For.named (sym c.in-For.is ∙ c.asked_for-asked.ensures) c.network_over.ensures

@@ -2,7 +2,6 @@
 -- manner is made.
 -- Assumes nothing.
 use mathlib.Core.Path.{sym, ◌∙◌}
-use borrow.Author.Rules.{rules}
 use Rattle.network_by.proofs.Counts.{asked-taken, count_refused, manner_refused}
 use Rattle.network_record.specs.RecordCall.{judgement, left_record_by}
 use Rattle.network_by.proofs.network_of_record.Goals as goal

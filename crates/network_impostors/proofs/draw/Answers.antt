@@ -1,6 +1,5 @@
 -- `network_impostors::draw` meets its contract: it is that of the call that it hands on to.
 -- Assumes nothing.
-use borrow.Author.Rules.{rules}
 use Rattle.network_impostors.proofs.draw.Goals as goal
 
 pub returns : goal.returns

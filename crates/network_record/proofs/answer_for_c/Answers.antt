@@ -3,7 +3,6 @@
 use mathlib.Core.Path.{ap, subst, sym, ◌∙◌}
 use Prim.Native.Nat.{◌≤◌}
 use native.Mathlib.Omega.{arith}
-use borrow.Author.Rules.{rules}
 use Rattle.network_record.specs.ReadAnswer.{length_of}
 use Rattle.network_record.specs.RecordCall.{answer_to}
 use Rattle.ground.specs.declared.Judged.{Judged}

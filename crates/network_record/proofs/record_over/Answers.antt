@@ -1,13 +1,11 @@
 -- `network_record::record_over` meets its contract: only an accepted record is worked out, and all of it.
 -- Assumes nothing.
-use mathlib.Core.Path.{ap, refl, sym, ◌∙◌, ◌≡◌}
+use mathlib.Core.Path.{ap, refl, sym, ◌∙◌}
 use Prim.Native.Nat.{◌*◌}
 use lib.ListN.{length}
-use borrow.Author.Rules.{rules}
 use borrow.Author.Tests.{leb-true}
-use Rattle.network_record.specs.RecordCall.{judgement, network_record_by, room_of}
+use Rattle.network_record.specs.RecordCall.{network_record_by, room_of}
 use Rattle.ground.proofs.Acceptance.{record_accepted}
-use Rattle.ground.specs.Accepted.{AcceptedRecord}
 use Rattle.lists.specs.Lists.{overwrite}
 use Rattle.network_bytes.specs.NetworkRecord.{network_bytes}
 use Rattle.record_stages.proofs.Accepted.{named_ground, readable_here, roomy_here}

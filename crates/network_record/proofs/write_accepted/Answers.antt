@@ -2,7 +2,6 @@
 -- Assumes nothing.
 use mathlib.Core.Path.{◌∙◌}
 use lib.ListN.{replicate}
-use borrow.Author.Rules.{rules}
 use Rattle.ground.specs.Record.{ground_in}
 use Rattle.network.proofs.Networks.{network_full, one_basins}
 use Rattle.lists.proofs.Overwrite.{overwrite-take}

@@ -4,7 +4,6 @@ use mathlib.Core.List.{List}
 use mathlib.Core.Path.{◌≡◌}
 use Prim.Native.Nat.{ℕ}
 use lib.ListN.{replicate}
-use borrow.Author.Rules.{rules}
 use Rattle.network_record.proofs.Writing.{record_written, writable}
 use Rattle.ground.specs.Record.{ground_in}
 use Rattle.network.proofs.Networks.{network_full}

@@ -1,15 +1,9 @@
 -- `record_stages::lift_record` meets its contract: after k turns the first k entries are the lifted heights.
 -- Assumes nothing.
-use mathlib.Core.Path.{ap, refl, sym, ◌∙◌, ◌≡◌}
-use Prim.Native.Nat.{◌*◌, ◌-◌, ◌<◌, ◌≤◌}
-use native.Mathlib.Omega.{arith}
-use lib.ListN.{length, length-set}
-use borrow.Author.Rules.{rules}
-use Rattle.heights.specs.Bits.{lifted_bits}
-use Rattle.lists.proofs.Filled.{filled_next, filled_none}
+use mathlib.Core.Path.{◌≡◌}
+use Prim.Native.Nat.{◌-◌, ◌≤◌}
+use lib.ListN.{length}
 use Rattle.lists.specs.Lists.{filled}
-use Rattle.sections.specs.LittleEndian.{number_at}
-use Rattle.record_stages.proofs.Reading.{lifted_bits_lem}
 use Rattle.record_stages.specs.Lifted.{lifted_at}
 use Rattle.record_stages.proofs.lift_record.Given as goal
 

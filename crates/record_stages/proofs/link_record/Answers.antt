@@ -5,7 +5,6 @@ use mathlib.Core.Path.{sym, ◌∙◌, ◌≡◌}
 use Prim.Native.Nat.{ℕ, ◌*◌}
 use native.Mathlib.Omega.{arith}
 use lib.ListN.{length, take}
-use borrow.Author.Rules.{rules}
 use Rattle.ground.specs.Record.{ground_in}
 use Rattle.record_stages.proofs.LinkedRecord.{linked_record, read_basins, read_full, read_tile}
 use Rattle.record_stages.proofs.Reading.{in_range-at, heights_are}

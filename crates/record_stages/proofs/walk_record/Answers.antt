@@ -6,7 +6,6 @@ use mathlib.Core.Path.{ap, refl, subst, sym, ◌∙◌, ◌≡◌}
 use Prim.Native.Nat.{ℕ, ◌*◌, ◌-◌}
 use native.Mathlib.Omega.{arith}
 use lib.ListN.{length, take}
-use borrow.Author.Rules.{rules}
 use Rattle.drainage.specs.Giving.{Ordered}
 use Rattle.ground.specs.Record.{ground_in}
 use Rattle.lists.specs.Lists.{stretch}
@@ -72,7 +71,7 @@ after c =
 -- what the walk left is what drainage asks for
 drainable : (c : After-walk_by)
     → Ordered (tile (goal.at.After-walk_by c).After-cells-n) (receivers_by c.args.manner (tile (goal.at.After-walk_by c).After-cells-n)) c.cells-n.result
-        (after c).order (after c).receivers
+    (after c).order (after c).receivers
 drainable c =
     ordered (tile-is (goal.at.After-walk_by c).After-cells-n) c.args.manner c.walk_by.ensures c.cells-n.result
     (c.cells-n.ensures ∙ sym (heights_full (goal.at.After-walk_by c).After-cells-n))
@@ -92,8 +91,11 @@ pub drain_section-requires : goal.drain_section-requires
 drain_section-requires c =
     let z = c.cells-n.ensures in
     let k : length (after (goal.at.drain_section-requires c).After-walk_by).stack ≡ length c.args.drainage.now = c.walk_by.auto.stack in record {
-      by_index = (tile (goal.at.drain_section-requires c).After-cells-n, receivers_by c.args.manner (tile (goal.at.drain_section-requires c).After-cells-n),
-          drainable (goal.at.drain_section-requires c).After-walk_by);
+      by_index = (
+        tile (goal.at.drain_section-requires c).After-cells-n,
+        receivers_by c.args.manner (tile (goal.at.drain_section-requires c).After-cells-n),
+        drainable (goal.at.drain_section-requires c).After-walk_by,
+      );
       n_in_bounds = (omega (arith, z, c.requires.readable.long), omega (arith, z, c.requires.lent_holds.fits_stack, k));
     }
 

@@ -1,6 +1,5 @@
 -- `record_text::judge_input` meets its contract: an input that is too long is refused, and else as the record that it is.
 -- Assumes nothing.
-use borrow.Author.Rules.{rules}
 use borrow.Author.Tests.{le-leb, lt-leb}
 use Rattle.record_text.specs.RecordText.{judge_input, longest_record}
 use Rattle.record_text.proofs.judge_input.Goals as goal

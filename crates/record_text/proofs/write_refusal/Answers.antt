@@ -2,7 +2,6 @@
 -- Assumes nothing.
 use mathlib.Core.Path.{ap, ◌∙◌}
 use Prim.Native.Nat.{ℕ}
-use borrow.Author.Rules.{rules}
 use Rattle.ground.specs.Judge.{refusal_number}
 use Rattle.text.proofs.Writing.{printed_same}
 use Rattle.text.specs.Text.{refused_text}

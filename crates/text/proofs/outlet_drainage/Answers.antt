@@ -1,7 +1,6 @@
 -- `text::outlet_drainage` meets its contract: after each turn the total is that of one cell more, and no more than all can have.
 -- Assumes nothing.
 use mathlib.Core.Path.{refl, sym, ◌∙◌, ◌≡◌}
-use Prim.Native.Nat.{◌*◌, ◌-◌, ◌≤◌}
 use native.Mathlib.Omega.{arith}
 use borrow.Author.Rules.{rules}
 use Rattle.text.proofs.Sums.{outlet_drainage-next}

@@ -1,10 +1,7 @@
 -- `text::outlet_drainage` meets its contract: after each turn the total is that of one cell more, and no more than all can have.
 -- Assumes nothing.
-use mathlib.Core.Path.{refl, sym, ◌∙◌, ◌≡◌}
+use mathlib.Core.Path.{◌≡◌}
 use Prim.Native.Nat.{◌*◌, ◌-◌, ◌≤◌}
-use native.Mathlib.Omega.{arith}
-use borrow.Author.Rules.{rules}
-use Rattle.text.proofs.Sums.{outlet_drainage-next}
 use Rattle.text.specs.Text.{outlet_drainage}
 use Rattle.text.proofs.outlet_drainage.Given as goal
 

@@ -1,7 +1,6 @@
 -- `text::outlet_share` meets its contract: the test is the definition's.
 -- Assumes nothing.
 use native.Mathlib.Omega.{arith}
-use borrow.Author.Rules.{rules}
 use borrow.Author.Tests.{eq-eqb, ne_eqb}
 use Rattle.text.proofs.outlet_share.Goals as goal
 

@@ -1,11 +1,8 @@
 -- `text::total_water` meets its contract: after each turn the total is that of one cell more, and no more than all can have.
 -- Assumes nothing.
 use mathlib.Core.Path.{refl, sym, ◌∙◌, ◌≡◌}
-use Prim.Native.Nat.{◌*◌, ◌-◌, ◌≤◌}
 use native.Mathlib.Omega.{arith}
-use lib.ListN.{take}
 use borrow.Author.Rules.{rules}
-use Rattle.lists.specs.Lists.{sum}
 use Rattle.text.proofs.Sums.{sum-next}
 use Rattle.text.proofs.total_water.Goals as goal
 

@@ -1,12 +1,9 @@
 -- `text::total_water` meets its contract: after each turn the total is that of one cell more, and no more than all can have.
 -- Assumes nothing.
-use mathlib.Core.Path.{refl, sym, ◌∙◌, ◌≡◌}
+use mathlib.Core.Path.{◌≡◌}
 use Prim.Native.Nat.{◌*◌, ◌-◌, ◌≤◌}
-use native.Mathlib.Omega.{arith}
 use lib.ListN.{take}
-use borrow.Author.Rules.{rules}
 use Rattle.lists.specs.Lists.{sum}
-use Rattle.text.proofs.Sums.{sum-next}
 use Rattle.text.proofs.total_water.Given as goal
 
 abbrev pub invariant-loop-c : goal.invariant-loop-c

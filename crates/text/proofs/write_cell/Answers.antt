@@ -5,7 +5,6 @@ use mathlib.Core.Path.{refl, ◌≡◌}
 use Prim.Native.Nat.{ℕ, ◌+◌}
 use native.Mathlib.Omega.{arith}
 use lib.ListN.{length}
-use borrow.Author.Rules.{rules}
 use Rattle.rules.specs.Ground.{dropped}
 use Rattle.text.proofs.Lines.{length-cell_line, length_field, length-level}
 use Rattle.text.proofs.Writing.{wrote_then}

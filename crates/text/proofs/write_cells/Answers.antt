@@ -2,7 +2,7 @@
 -- Assumes nothing.
 use mathlib.Core.List.{map}
 use mathlib.Core.Path.{ap, refl, ◌∙◌, ◌≡◌}
-use Prim.Native.Nat.{◌+◌, ◌-◌, ◌≤◌}
+use Prim.Native.Nat.{◌+◌}
 use native.Mathlib.Omega.{arith}
 use lib.ListN.{length, length-append}
 use borrow.Author.Rules.{rules}
@@ -10,7 +10,6 @@ use Rattle.rules.specs.Ground.{dropped}
 use Rattle.text.proofs.Lines.{cell_lines-lifted, cell_lines-within}
 use Rattle.text.proofs.Writing.{wrote_none, wrote_then}
 use Rattle.text.specs.Text.{cell_lines}
-use Rattle.text.specs.Writing.{Wrote}
 use Rattle.text.proofs.write_cells.Goals as goal
 
 pub loop-c-init : goal.loop-c-init

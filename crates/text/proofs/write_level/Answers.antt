@@ -4,7 +4,6 @@ use mathlib.Core.Path.{ap, refl, ◌∙◌}
 use Prim.Native.Nat.{◌-◌}
 use native.Mathlib.Omega.{arith}
 use lib.ListN.{length, length-set}
-use borrow.Author.Rules.{rules}
 use Rattle.rules.specs.Ground.{dropped}
 use Rattle.text.proofs.Lines.{length_field, length-level, level-above, level-below}
 use Rattle.text.proofs.Writing.{wrote_byte, wrote_then}

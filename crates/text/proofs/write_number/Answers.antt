@@ -4,7 +4,6 @@ use mathlib.Core.List.{[], ◌∷◌}
 use mathlib.Core.Path.{refl, ◌≡◌}
 use native.Mathlib.Omega.{arith}
 use lib.ListN.{length, length-append}
-use borrow.Author.Rules.{rules}
 use Rattle.text.proofs.Writing.{wrote_byte, wrote_then}
 use Rattle.text.specs.Text.{decimal}
 use Rattle.text.proofs.write_number.Goals as goal

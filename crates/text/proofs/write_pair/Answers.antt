@@ -3,7 +3,6 @@
 use mathlib.Core.List.{append_assoc}
 use mathlib.Core.Path.{refl}
 use native.Mathlib.Omega.{arith}
-use borrow.Author.Rules.{rules}
 use Rattle.text.proofs.Lines.{length_field, length-pair_line}
 use Rattle.text.proofs.Writing.{printed, wrote_then}
 use Rattle.text.proofs.write_pair.Goals as goal

@@ -2,7 +2,6 @@
 -- Assumes nothing.
 use mathlib.Core.Path.{refl}
 use native.Mathlib.Omega.{arith}
-use borrow.Author.Rules.{rules}
 use Rattle.text.proofs.Lengths.{Entries, Parts, parts_fit}
 use Rattle.text.proofs.Writing.{printed, wrote_then}
 use Rattle.text.proofs.write_tile.Goals as goal
@@ -34,8 +33,13 @@ write_cells-last-requires c =
       receivers_hold = p.receivers_hold;
       levels_hold = p.levels_hold;
       drainage_holds = p.drainage_holds;
-      room = omega (arith, (parts (goal.at.write_cells-last-requires c).After-shared_slice_known-5-1).size,
-          (parts (goal.at.write_cells-last-requires c).After-shared_slice_known-5-1).cells, c.write_size-first.ensures.end, p.room);
+      room = omega (
+        arith,
+        (parts (goal.at.write_cells-last-requires c).After-shared_slice_known-5-1).size,
+        (parts (goal.at.write_cells-last-requires c).After-shared_slice_known-5-1).cells,
+        c.write_size-first.ensures.end,
+        p.room,
+      );
     }
 
 pub outlet_drainage-out-requires : goal.outlet_drainage-out-requires
@@ -58,4 +62,4 @@ pub returns : goal.returns
 returns c =
     let sums = rw (c.total_water-rain.ensures, c.outlet_drainage-out.ensures) at c.write_sums.ensures in
     printed (wrote_then c.write_size-first.ensures (wrote_then c.write_cells-last.ensures sums refl)
-        (parts (goal.at.returns c).After-shared_slice_known-5-1).text)
+    (parts (goal.at.returns c).After-shared_slice_known-5-1).text)

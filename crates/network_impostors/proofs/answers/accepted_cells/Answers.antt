@@ -1,7 +1,6 @@
 -- `network_impostors::answers::accepted_cells` meets its contract: the cases of the code are the definition's.
 -- Assumes nothing.
 use mathlib.Core.Path.{ap, sym, ◌∙◌}
-use borrow.Author.Rules.{rules}
 use Rattle.network_impostors.specs.Impostors.{accepted_cells}
 use Rattle.network_impostors.proofs.answers.accepted_cells.Goals as goal
 

@@ -1,6 +1,5 @@
 -- `network_impostors::answers::accepted_three_by_three` meets its contract: the cases and the tests of the code are the definition's.
 -- Assumes nothing.
-use borrow.Author.Rules.{rules}
 use borrow.Author.Tests.{eq-eqb, ne_eqb}
 use Rattle.network_impostors.proofs.answers.accepted_three_by_three.Goals as goal
 

@@ -1,7 +1,6 @@
 -- `network_impostors::own_receiver::network` meets its contract: the real call draws, and own numbers are written over its receivers.
 -- Assumes nothing.
 use native.Mathlib.Omega.{arith}
-use borrow.Author.Rules.{rules}
 use Rattle.network_impostors.proofs.Drawn.{drawn_few, drawn_holds}
 use Rattle.network_impostors.proofs.WrittenOver.{own_receivers-left}
 use Rattle.network_impostors.proofs.own_receiver.network.Goals as goal

@@ -1,11 +1,8 @@
 -- `network_impostors::own_receiver::own_indices` meets its contract: after k turns the first k entries are their own indices.
 -- Assumes nothing.
-use mathlib.Core.Path.{refl, sym, ◌∙◌, ◌≡◌}
+use mathlib.Core.Path.{◌≡◌}
 use Prim.Native.Nat.{◌-◌, ◌≤◌}
-use native.Mathlib.Omega.{arith}
-use lib.ListN.{length, length-set}
-use borrow.Author.Rules.{rules}
-use Rattle.lists.proofs.Filled.{filled_next, filled_none}
+use lib.ListN.{length}
 use Rattle.lists.specs.Lists.{filled}
 use Rattle.network_impostors.proofs.own_receiver.own_indices.Given as goal
 

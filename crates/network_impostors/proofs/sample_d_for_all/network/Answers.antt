@@ -1,8 +1,6 @@
 -- `network_impostors::sample_d_for_all::network` meets its contract: the real call draws, and sample D's network is written over a 3 by 3 tile's.
 -- Assumes nothing.
 use mathlib.Core.Path.{sym, ◌∙◌}
-use borrow.Author.Rules.{rules}
-use borrow.Author.Tests.{not-false, not-true}
 use Rattle.network_impostors.proofs.WrittenOver.{nine_hold, other_left, sample_d-left}
 use Rattle.network_impostors.proofs.sample_d_for_all.network.Goals as goal
 

@@ -1,11 +1,8 @@
 -- `network_impostors::zero_levels::clear_drainage` meets its contract: after k turns the first k entries are 0.
 -- Assumes nothing.
-use mathlib.Core.Path.{refl, sym, ◌∙◌, ◌≡◌}
+use mathlib.Core.Path.{◌≡◌}
 use Prim.Native.Nat.{◌-◌, ◌≤◌}
-use native.Mathlib.Omega.{arith}
-use lib.ListN.{length, length-set}
-use borrow.Author.Rules.{rules}
-use Rattle.lists.proofs.Filled.{filled_next, filled_none}
+use lib.ListN.{length}
 use Rattle.lists.specs.Lists.{filled}
 use Rattle.network_impostors.proofs.zero_levels.clear_drainage.Given as goal
 

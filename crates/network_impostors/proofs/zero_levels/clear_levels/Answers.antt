@@ -1,13 +1,11 @@
 -- `network_impostors::zero_levels::clear_levels` meets its contract: after k turns the first k entries are 0.
 -- Assumes nothing.
 use mathlib.Core.Path.{refl, sym, ◌∙◌, ◌≡◌}
-use Prim.Native.Nat.{◌-◌, ◌≤◌}
 use native.Mathlib.Omega.{arith}
 use lib.IntN.{pos}
-use lib.ListN.{length, length-set}
+use lib.ListN.{length-set}
 use borrow.Author.Rules.{rules}
 use Rattle.lists.proofs.Filled.{filled_next, filled_none}
-use Rattle.lists.specs.Lists.{filled}
 use Rattle.network_impostors.proofs.zero_levels.clear_levels.Goals as goal
 
 pub loop-k-init : goal.loop-k-init

@@ -1,12 +1,9 @@
 -- `network_impostors::zero_levels::clear_levels` meets its contract: after k turns the first k entries are 0.
 -- Assumes nothing.
-use mathlib.Core.Path.{refl, sym, ◌∙◌, ◌≡◌}
+use mathlib.Core.Path.{◌≡◌}
 use Prim.Native.Nat.{◌-◌, ◌≤◌}
-use native.Mathlib.Omega.{arith}
 use lib.IntN.{pos}
-use lib.ListN.{length, length-set}
-use borrow.Author.Rules.{rules}
-use Rattle.lists.proofs.Filled.{filled_next, filled_none}
+use lib.ListN.{length}
 use Rattle.lists.specs.Lists.{filled}
 use Rattle.network_impostors.proofs.zero_levels.clear_levels.Given as goal
 

@@ -1,7 +1,6 @@
 -- `network_impostors::zero_levels::network` meets its contract: the real call draws, and zeros are written over its levels and its drainage.
 -- Assumes nothing.
 use native.Mathlib.Omega.{arith}
-use borrow.Author.Rules.{rules}
 use Rattle.network_impostors.proofs.Drawn.{drawn_holds}
 use Rattle.network_impostors.proofs.WrittenOver.{zero_levels_left}
 use Rattle.network_impostors.proofs.zero_levels.network.Goals as goal
