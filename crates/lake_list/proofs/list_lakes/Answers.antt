@@ -63,8 +63,12 @@ pub slice_bounds-list_wet-end-4 : goal.slice_bounds-list_wet-end-4
 slice_bounds-list_wet-end-4 c = sym (cells-long (goal.at.slice_bounds-list_wet-end-4 c).After-note_lakes-count)
 
 pub slice_bounds-spare-end : goal.slice_bounds-spare-end
-slice_bounds-spare-end c = omega (arith, few (goal.at.slice_bounds-spare-end c).After-note_lakes-count, cells_few
-    (goal.at.slice_bounds-spare-end c).After-note_lakes-count)
+slice_bounds-spare-end c = omega (
+  arith,
+  few (goal.at.slice_bounds-spare-end c).After-note_lakes-count,
+  cells_few
+      (goal.at.slice_bounds-spare-end c).After-note_lakes-count,
+)
 
 pub slice_bounds-list_wet-end-5 : goal.slice_bounds-list_wet-end-5
 slice_bounds-list_wet-end-5 c = sym (spare-long (goal.at.slice_bounds-list_wet-end-5 c).After-note_lakes-count)

@@ -12,7 +12,7 @@ abbrev pub invariant-loop-x : goal.invariant-loop-x
 invariant-loop-x l =
     (l.x ≤ l.count) × Kept l.initial.cells l.cells l.initial.spare l.spare l.initial.ends l.ends l.initial.index l.index l.initial.rows l.rows
     × ((K : NotedLakes l.heights l.flags l.parents l.joins (level_of l.levels) l.initial.cells l.initial.ends l.count) → Walked K 64 0 l.initial.rows
-        l.cells l.ends l.rows l.x l.next)
+    l.cells l.ends l.rows l.x l.next)
 
 abbrev pub decreases-loop-x : goal.decreases-loop-x
 decreases-loop-x l =

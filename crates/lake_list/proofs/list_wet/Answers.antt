@@ -38,4 +38,4 @@ pub returns : goal.returns
 returns c =
     let go = c.gather-count.auto.out in
     λ K. found_in c.args.levels.now K c.gather-count.ensures go c.requires.room.0.spare_fits (enough (goal.at.returns c).After-gather-count)
-        c.list_outermost.ensures
+    c.list_outermost.ensures

@@ -5,7 +5,6 @@ use mathlib.Core.Path.{ap, sym, ◌∙◌}
 use native.Mathlib.Omega.{arith}
 use lib.ListN.{length}
 use lib.Seq.{length-take-le}
-use borrow.Author.Rules.{rules}
 use Rattle.lake_notes.proofs.Climbs.{climbed_notes}
 use Rattle.lake_notes.proofs.WetCells.{wet_below_lem}
 use Rattle.lake_notes.proofs.note_lakes.Goals as goal

@@ -1,7 +1,6 @@
 -- `lake_notes::below_wet` meets its contract: the last row has no cell below.
 -- Assumes nothing.
 use native.Mathlib.Omega.{arith}
-use borrow.Author.Rules.{rules}
 use borrow.Author.Tests.{le-ltb, lt-ltb}
 use Rattle.lake_notes.proofs.listing.below_wet.Goals as goal
 

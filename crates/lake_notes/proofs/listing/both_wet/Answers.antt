@@ -1,7 +1,6 @@
 -- `lake_notes::both_wet` meets its contract: the two tests in their order.
 -- Assumes nothing.
 use native.Mathlib.Omega.{arith}
-use borrow.Author.Rules.{rules}
 use borrow.Author.Tests.{le-ltb, lt-ltb}
 use Rattle.lake_notes.proofs.listing.both_wet.Goals as goal
 

@@ -4,7 +4,6 @@ use mathlib.Core.Path.{sym}
 use native.Mathlib.Omega.{arith}
 use lib.ListN.{drop, length-append}
 use lib.Seq.{length-take-le, take_at}
-use borrow.Author.Rules.{rules}
 use Rattle.lake_notes.proofs.Sorting.{wet_climbing, wet_sortable}
 use Rattle.lake_notes.proofs.listing.climbing_pairs.Goals as goal
 

@@ -1,6 +1,5 @@
 -- `lake_notes::next_left` meets its contract: the two cases.
 -- Assumes nothing.
-use borrow.Author.Rules.{rules}
 use borrow.Author.Tests.{eq-eqb, ne_eqb}
 use Rattle.lake_notes.proofs.listing.next_left.Goals as goal
 

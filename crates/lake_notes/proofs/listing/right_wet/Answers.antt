@@ -3,7 +3,6 @@
 use Prim.Native.Nat.{◌%◌, ◌+◌, ◌<◌, ◌≤◌}
 use native.Mathlib.Omega.{arith}
 use lib.ListN.{length}
-use borrow.Author.Rules.{rules}
 use borrow.Author.Tests.{le-ltb, lt-ltb}
 use Rattle.grid.proofs.Rows.{right_on}
 use Rattle.lake_notes.proofs.listing.right_wet.Goals as goal

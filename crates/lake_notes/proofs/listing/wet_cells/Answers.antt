@@ -1,10 +1,7 @@
 -- `lake_notes::wet_cells` meets its contract: after c cells the wet ones among them stand at the start.
 -- Assumes nothing.
-use Prim.Native.Nat.{◌-◌, ◌≤◌}
 use native.Mathlib.Omega.{arith}
-use lib.ListN.{length}
-use borrow.Author.Rules.{rules}
-use Rattle.lake_notes.proofs.WetCells.{Kept, kept_all, kept_dry, kept_none, kept_wet}
+use Rattle.lake_notes.proofs.WetCells.{kept_all, kept_dry, kept_none, kept_wet}
 use Rattle.lake_notes.proofs.listing.wet_cells.Goals as goal
 
 pub loop-c-init : goal.loop-c-init

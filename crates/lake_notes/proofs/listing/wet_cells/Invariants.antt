@@ -1,10 +1,8 @@
 -- `lake_notes::wet_cells` meets its contract: after c cells the wet ones among them stand at the start.
 -- Assumes nothing.
 use Prim.Native.Nat.{◌-◌, ◌≤◌}
-use native.Mathlib.Omega.{arith}
 use lib.ListN.{length}
-use borrow.Author.Rules.{rules}
-use Rattle.lake_notes.proofs.WetCells.{Kept, kept_all, kept_dry, kept_none, kept_wet}
+use Rattle.lake_notes.proofs.WetCells.{Kept}
 use Rattle.lake_notes.proofs.listing.wet_cells.Given as goal
 
 abbrev pub invariant-loop-c : goal.invariant-loop-c

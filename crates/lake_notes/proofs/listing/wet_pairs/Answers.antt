@@ -1,10 +1,8 @@
 -- `lake_notes::wet_pairs` meets its contract: after c cells their pairs stand at the start.
 -- Assumes nothing.
-use Prim.Native.Nat.{◌-◌, ◌≤◌}
 use native.Mathlib.Omega.{arith}
-use lib.ListN.{length, length-set}
-use borrow.Author.Rules.{rules}
-use Rattle.lake_notes.proofs.PairTurns.{Listing, listing_all, listing_next, listing_none, some_left}
+use lib.ListN.{length-set}
+use Rattle.lake_notes.proofs.PairTurns.{listing_all, listing_next, listing_none, some_left}
 use Rattle.lake_notes.proofs.listing.wet_pairs.Goals as goal
 
 pub loop-c-init : goal.loop-c-init

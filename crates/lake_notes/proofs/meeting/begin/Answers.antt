@@ -1,13 +1,11 @@
 -- `lake_notes::begin` meets its contract: after c turns each list has its first c entries, and is as it was past them.
 -- Assumes nothing.
 use mathlib.Core.Path.{sym, refl, ◌≡◌}
-use Prim.Native.Nat.{◌-◌, ◌≤◌}
 use native.Mathlib.Omega.{arith}
 use lib.ListN.{length, length-set}
-use borrow.Author.Rules.{rules}
 use Rattle.lake_rules.specs.Notes.{highest}
 use Rattle.lists.proofs.Filled.{filled_next, filled_none}
-use Rattle.lists.specs.Lists.{at, filled}
+use Rattle.lists.specs.Lists.{at}
 use Rattle.lake_notes.proofs.meeting.begin.Goals as goal
 
 pub loop-c-init : goal.loop-c-init

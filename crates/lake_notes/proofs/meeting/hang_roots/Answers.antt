@@ -1,7 +1,6 @@
 -- `lake_notes::hang_roots` meets its contract: what is stored is the lesser root, where the greater one stands.
 -- Assumes nothing.
 use mathlib.Core.Path.{refl}
-use borrow.Author.Rules.{rules}
 use Rattle.lake_notes.proofs.meeting.hang_roots.Goals as goal
 
 pub returns : goal.returns

@@ -1,6 +1,5 @@
 -- `lake_notes::higher_of` meets its contract: the two cases.
 -- Assumes nothing.
-use borrow.Author.Rules.{rules}
 use borrow.Author.Tests.{le-ltb, lt-ltb}
 use Rattle.lake_notes.proofs.meeting.higher_of.Goals as goal
 

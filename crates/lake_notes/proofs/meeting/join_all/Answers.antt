@@ -4,7 +4,6 @@ use mathlib.Core.Path.{sym, ◌≡◌}
 use Prim.Native.Nat.{ℕ, ◌≤◌}
 use lib.ListN.{length, replicate, take}
 use lib.Seq.{length-take-le}
-use borrow.Author.Rules.{rules}
 use Rattle.lake_notes.proofs.meeting.join_all.Goals as goal
 
 -- the part of the zeros that it lends

@@ -1,7 +1,6 @@
 -- `lake_notes::join_in` meets its contract: each cell is alone and nothing is noted, then pair after pair is taken.
 -- Assumes nothing.
 use mathlib.Core.Path.{ap, ◌∙◌}
-use borrow.Author.Rules.{rules}
 use Rattle.lake_notes.proofs.Turns.{as_long_sized, as_long_then, AsLong, so_far_begun}
 use Rattle.lake_notes.specs.Meeting.{Lists, lists_of}
 use Rattle.lists.specs.Lists.{upto}

@@ -3,7 +3,6 @@
 use mathlib.Core.Path.{◌∙◌, ◌≡◌}
 use native.Mathlib.Omega.{arith}
 use lib.ListN.{length}
-use borrow.Author.Rules.{rules}
 use Rattle.groups.proofs.Merging.{one-root, other_root, Searched, searched}
 use Rattle.groups.specs.Groups.{Root}
 use Rattle.lake_notes.proofs.Turns.{met-one, met-two}

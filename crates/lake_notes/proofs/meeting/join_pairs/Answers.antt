@@ -2,13 +2,10 @@
 -- Assumes nothing.
 use mathlib.Core.List.{[]}
 use mathlib.Core.Path.{◌≡◌}
-use Prim.Native.Nat.{◌-◌, ◌≤◌}
 use native.Mathlib.Omega.{arith}
 use lib.ListN.{length}
-use borrow.Author.Rules.{rules}
 use Rattle.lake_notes.proofs.Climbs.{greater_on}
-use Rattle.lake_notes.proofs.Turns.{as_long_none, Turned, turned_next}
-use Rattle.lake_notes.specs.Meeting.{lists_of}
+use Rattle.lake_notes.proofs.Turns.{as_long_none, turned_next}
 use Rattle.lake_notes.proofs.meeting.join_pairs.Goals as goal
 
 pub loop-i-init : goal.loop-i-init
