@@ -1,0 +1,14 @@
+pub mod Labels
+pub mod Under
+pub mod MergedRoots
+pub mod Noted
+pub mod Begun
+pub mod NoteTurns
+pub mod InPlace
+pub mod Spilled
+pub mod Raised
+pub mod Ways
+pub mod Levels
+pub mod OutletsFirst
+pub mod Samples
+pub mod OneOutcome

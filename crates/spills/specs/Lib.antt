@@ -1,0 +1,3 @@
+pub mod Spills
+pub mod Noting
+pub mod Levels
