@@ -2,10 +2,9 @@
 -- Assumes nothing.
 use mathlib.Core.List.{List, map}
 use mathlib.Core.Path.{subst, sym, ◌∙◌, ◌≡◌}
-use Prim.Native.Nat.{ℕ, ◌*◌, ◌-◌}
+use Prim.Native.Nat.{ℕ, ◌*◌}
 use native.Mathlib.Omega.{arith}
 use lib.ListN.{length, replicate, take}
-use borrow.Author.Rules.{rules}
 use Rattle.ground.specs.Record.{ground_in}
 use Rattle.lake_list.specs.Rows.{FoundIn}
 use Rattle.lake_stages.specs.Levels.{levels_on}

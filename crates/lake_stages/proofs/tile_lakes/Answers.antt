@@ -4,7 +4,6 @@ use mathlib.Core.List.{List}
 use mathlib.Core.Path.{ap, subst, sym, ◌∙◌, ◌≡◌}
 use Prim.Native.Nat.{ℕ}
 use lib.ListN.{length, replicate, take}
-use borrow.Author.Rules.{rules}
 use Rattle.lake_list.specs.Rows.{FoundIn}
 use Rattle.lake_notes.specs.Noting.{Levelled}
 use Rattle.lake_rules.specs.LocalLevels.{Local}

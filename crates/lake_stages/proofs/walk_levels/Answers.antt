@@ -1,6 +1,5 @@
 -- `lake_stages::walk_levels` meets its contract: of what the walk leaves, the levels are kept.
 -- Assumes nothing.
-use borrow.Author.Rules.{rules}
 use Rattle.lake_stages.specs.Levels.{levels_on}
 use Rattle.lists.specs.Lists.{filled}
 use Rattle.rules.specs.Carving.{receivers}
