@@ -1,7 +1,6 @@
 -- `askvimur_service::answer_for_c` meets its contract, case by case.
 -- Assumes nothing.
 use mathlib.Core.Path.{ap, sym, ◌∙◌}
-use borrow.Author.Rules.{rules}
 use Rattle.askvimur_service.specs.LakesCall.{lakes_answer_to}
 use Rattle.askvimur_service.proofs.answer_for_c.Goals as goal
 

@@ -1,7 +1,6 @@
 -- `askvimur_service::askvimur_lakes` meets its contract: the answer of the call, packed.
 -- Assumes nothing.
 use mathlib.Core.Path.{ap, ◌∙◌}
-use borrow.Author.Rules.{rules}
 use Rattle.askvimur_service.specs.LakesCall.{lakes_answer_to, lakes_room_left}
 use Rattle.askvimur_service.proofs.askvimur_lakes.Goals as goal
 

@@ -1,6 +1,5 @@
 -- `askvimur_service::askvimur_network_by` meets its contract: the answer of the call, packed.
 -- Assumes nothing.
-use borrow.Author.Rules.{rules}
 use Rattle.network_by.proofs.ForC.{counted_packable, counted_packed}
 use Rattle.askvimur_service.proofs.askvimur_network_by.Goals as goal
 

@@ -1,11 +1,8 @@
 -- `askvimur_service::lakes_of_record` meets its contract: only the lakes of an accepted record are looked for.
 -- Assumes nothing.
-use mathlib.Core.Path.{ap, refl, subst, sym, ◌∙◌, ◌≡◌}
-use borrow.Author.Rules.{rules}
+use mathlib.Core.Path.{ap, refl, subst, sym, ◌∙◌}
 use Rattle.askvimur_service.specs.LakesCall.{lakes_room, room_left}
 use Rattle.ground.proofs.Acceptance.{record_accepted}
-use Rattle.ground.specs.Accepted.{AcceptedRecord}
-use Rattle.ground.specs.Judge.{judge_record}
 use Rattle.ground.specs.Record.{ground_of_record}
 use Rattle.ground.specs.Rooms.{any_room}
 use Rattle.lake_calls.specs.LakeCall.{judge_found, judge_lakes}

@@ -1,7 +1,6 @@
 -- `askvimur_service::list_accepted` meets its contract: what is found is the ground's, and is written.
 -- Assumes nothing.
 use native.Mathlib.Omega.{arith}
-use borrow.Author.Rules.{rules}
 use Rattle.ground.specs.Record.{ground_in}
 use Rattle.lake_stages.proofs.FoundLakes.{found_read}
 use Rattle.lake_stages.specs.LakesOn.{lakes_on, too_deep_on}

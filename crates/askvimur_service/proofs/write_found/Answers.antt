@@ -4,7 +4,6 @@ use mathlib.Core.List.{List}
 use mathlib.Core.Path.{ap, refl, sym, ◌∙◌, ◌≡◌}
 use Prim.Native.Nat.{ℕ, ◌≤◌}
 use native.Mathlib.Omega.{arith}
-use borrow.Author.Rules.{rules}
 use Rattle.askvimur_service.specs.LakesCall.{lakes_room}
 use Rattle.lake_bytes.specs.LakeBytes.{lakes_bytes}
 use Rattle.lake_calls.proofs.Answers.{answer_listed}

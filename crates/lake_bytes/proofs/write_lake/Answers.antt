@@ -3,7 +3,6 @@
 use mathlib.Core.List.{List}
 use mathlib.Core.Path.{ap, ◌∙◌}
 use Prim.Native.Nat.{ℕ, ◌+◌}
-use borrow.Author.Rules.{rules}
 use Rattle.heights.specs.Bits.{dropped_bits}
 use Rattle.lake_bytes.proofs.Laws.{lake-written}
 use Rattle.lists.specs.Lists.{stored}

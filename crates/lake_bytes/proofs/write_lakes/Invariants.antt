@@ -1,13 +1,9 @@
 -- `lake_bytes::write_lakes` meets its contract: after i turns the bytes of the first i lakes stand at the start.
 -- Assumes nothing.
-use mathlib.Core.Path.{refl, ◌∙◌, ◌≡◌}
+use mathlib.Core.Path.{◌≡◌}
 use Prim.Native.Nat.{◌-◌, ◌≤◌}
-use native.Mathlib.Omega.{arith}
 use lib.ListN.{length}
-use borrow.Author.Rules.{rules}
-use Rattle.lake_bytes.proofs.Laws.{lakes-next}
 use Rattle.lake_bytes.specs.LakeBytes.{lakes_bytes}
-use Rattle.lake_rows.proofs.Rows.{level_read}
 use Rattle.lake_rows.specs.Reading.{read_lakes}
 use Rattle.lists.specs.Lists.{overwrite}
 use Rattle.lake_bytes.proofs.write_lakes.Given as goal

@@ -1,6 +1,5 @@
 -- `lake_calls::judge_found` meets its contract: the case of what was found, and the test of the room.
 -- Assumes nothing.
-use borrow.Author.Rules.{rules}
 use borrow.Author.Tests.{le-leb, lt-leb}
 use Rattle.lake_calls.proofs.judge_found.Goals as goal
 

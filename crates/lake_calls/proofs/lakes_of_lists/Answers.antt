@@ -1,9 +1,7 @@
 -- `lake_calls::lakes_of_lists` meets its contract: only the lakes of an accepted ground are looked for.
 -- Assumes nothing.
 use mathlib.Core.Path.{ap, refl, sym, ◌∙◌, ◌≡◌}
-use borrow.Author.Rules.{rules}
 use Rattle.ground.proofs.Acceptance.{lists_accepted}
-use Rattle.ground.specs.Accepted.{AcceptedLists}
 use Rattle.ground.specs.Judge.{judge_lists}
 use Rattle.ground.specs.Record.{ground_of_lists}
 use Rattle.ground.specs.Rooms.{any_room}
@@ -20,9 +18,11 @@ abbrev before : After-judge_lists-judged → LakeLists
 before c = let a = c.args in lake_lists a.levels.now a.counts.now a.volumes.now a.leasts.now
 
 pub list_accepted-requires : goal.list_accepted-requires
-list_accepted-requires c =
-    (c.args.water.now, (lists_accepted any_room (ground (goal.at.list_accepted-requires c).After-judge_lists-judged)
-        (sym c.judge_lists-judged.ensures ∙ c.in-Accepted.is)).good)
+list_accepted-requires c = (
+  c.args.water.now,
+  (lists_accepted any_room (ground (goal.at.list_accepted-requires c).After-judge_lists-judged)
+      (sym c.judge_lists-judged.ensures ∙ c.in-Accepted.is)).good,
+)
 
 pub returns-in-Refused : goal.returns-in-Refused
 returns-in-Refused c =

@@ -6,7 +6,6 @@ use Prim.Native.Nat.{ℕ, ◌≤◌}
 use native.Mathlib.Omega.{arith}
 use lib.ListN.{length, replicate, take}
 use lib.Seq.{length-take-le}
-use borrow.Author.Rules.{rules}
 use Rattle.ground.proofs.Acceptance.{good_few}
 use Rattle.ground.specs.Good.{Good}
 use Rattle.ground.specs.Record.{ground_of_lists}
@@ -56,7 +55,7 @@ read_here c water G =
     found_read g G c.tile_lakes-found.new.rows (omega (arith, long, good_few g G))
     (subst Found (tile-is-land Four g G)
     (subst (λ (l : List ℕ). Found (tile_land rule4 g.width l g.marks)) (heights_here (goal.at.After-tile_lakes-found c).After-lift_heights water G)
-        c.tile_lakes-found.ensures))
+    c.tile_lakes-found.ensures))
 
 pub lift_heights-requires : goal.lift_heights-requires
 lift_heights-requires c =

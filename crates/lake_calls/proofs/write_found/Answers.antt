@@ -4,7 +4,6 @@ use mathlib.Core.List.{List}
 use mathlib.Core.Path.{ap, refl, sym, ◌∙◌, ◌≡◌}
 use Prim.Native.Nat.{ℕ, ◌≤◌}
 use native.Mathlib.Omega.{arith}
-use borrow.Author.Rules.{rules}
 use Rattle.lake_calls.proofs.Answers.{answer_listed}
 use Rattle.lake_calls.specs.LakeCall.{judge_found, LakeLists, lake_lists, lakes_onto, shortest_lake_list}
 use Rattle.lake_list.specs.Rows.{found_of}

@@ -1,12 +1,9 @@
 -- `lake_calls::write_leasts` meets its contract: after i turns the first i entries are the least cells of the first i lakes.
 -- Assumes nothing.
-use mathlib.Core.Path.{refl, sym, ◌∙◌, ◌≡◌}
+use mathlib.Core.Path.{◌≡◌}
 use Prim.Native.Nat.{◌-◌, ◌≤◌}
-use native.Mathlib.Omega.{arith}
-use lib.ListN.{length, length-set}
-use borrow.Author.Rules.{rules}
+use lib.ListN.{length}
 use Rattle.lake_rows.specs.Reading.{least_in}
-use Rattle.lists.proofs.Filled.{filled_next, filled_none}
 use Rattle.lists.specs.Lists.{filled}
 use Rattle.lake_calls.proofs.write_leasts.Given as goal
 

@@ -1,16 +1,15 @@
 -- `lake_calls::write_levels` meets its contract: after i turns the first i entries are the levels of the first i lakes, dropped.
 -- Assumes nothing.
 use mathlib.Core.Path.{ap, refl, subst, sym, ◌∙◌, ◌≡◌}
-use Prim.Native.Nat.{ℕ, ◌-◌, ◌≤◌}
+use Prim.Native.Nat.{ℕ, ◌≤◌}
 use native.Mathlib.Omega.{arith}
-use lib.ListN.{length, length-set}
+use lib.ListN.{length-set}
 use mir.Facts.{to_z-of_z}
 use mir.Syntax.{w32}
 use mir.Val.{SFits}
 use borrow.Author.Rules.{rules}
 use Rattle.lake_rows.specs.Reading.{level_in}
 use Rattle.lists.proofs.Filled.{filled_next, filled_none}
-use Rattle.lists.specs.Lists.{filled}
 use Rattle.rules.specs.Ground.{dropped}
 use Rattle.lake_calls.proofs.write_levels.Goals as goal
 

@@ -1,7 +1,6 @@
 -- `lake_calls::write_lists` meets its contract: each list is filled with a number of each lake.
 -- Assumes nothing.
 use mathlib.Core.Path.{◌∙◌}
-use borrow.Author.Rules.{rules}
 use Rattle.lake_calls.proofs.Rows.{filled-lakes}
 use Rattle.lake_calls.specs.LakeCall.{lake_lists}
 use Rattle.lake_rows.proofs.Rows.{level_read}

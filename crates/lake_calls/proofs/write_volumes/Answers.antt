@@ -1,13 +1,11 @@
 -- `lake_calls::write_volumes` meets its contract: after i turns the first i entries are the volumes of the first i lakes.
 -- Assumes nothing.
 use mathlib.Core.Path.{refl, sym, ◌∙◌, ◌≡◌}
-use Prim.Native.Nat.{◌-◌, ◌≤◌}
 use native.Mathlib.Omega.{arith}
-use lib.ListN.{length, length-set}
+use lib.ListN.{length-set}
 use borrow.Author.Rules.{rules}
 use Rattle.lake_rows.specs.Reading.{volume_in}
 use Rattle.lists.proofs.Filled.{filled_next, filled_none}
-use Rattle.lists.specs.Lists.{filled}
 use Rattle.lake_calls.proofs.write_volumes.Goals as goal
 
 pub loop-i-init : goal.loop-i-init
