@@ -2,7 +2,6 @@
 -- Assumes nothing.
 use mathlib.Core.Path.{refl}
 use native.Mathlib.Omega.{arith}
-use borrow.Author.Rules.{rules}
 use Rattle.lake_text.proofs.Lines.{length-lakes_line}
 use Rattle.lake_text.specs.LakeText.{lakes_line}
 use Rattle.text.proofs.Lines.{length_field}

@@ -5,7 +5,6 @@ use mathlib.Core.Path.{refl, ◌≡◌}
 use Prim.Native.Nat.{ℕ, ◌+◌}
 use native.Mathlib.Omega.{arith}
 use lib.ListN.{length}
-use borrow.Author.Rules.{rules}
 use Rattle.lake_rules.specs.Lakes.{Lake}
 use Rattle.lake_text.proofs.Lines.{length-lake_line}
 use Rattle.lake_text.specs.LakeText.{lake_line}

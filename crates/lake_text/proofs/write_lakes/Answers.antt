@@ -5,7 +5,6 @@ use mathlib.Core.List.{◌++◌}
 use mathlib.Core.Path.{ap, sym}
 use Prim.Native.Nat.{ℕ}
 use native.Mathlib.Omega.{arith}
-use borrow.Author.Rules.{rules}
 use Rattle.lake_rows.specs.Reading.{read_lake, read_lakes}
 use Rattle.lake_text.proofs.Lines.{lakes_line_fits, lines, lines_fit}
 use Rattle.lake_text.specs.LakeText.{lakes_line, lakes_text}

@@ -1,6 +1,5 @@
 -- `lake_text::write_row` meets its contract: the four numbers that are read make up the lake of the row.
 -- Assumes nothing.
-use borrow.Author.Rules.{rules}
 use Rattle.lake_text.proofs.write_row.Goals as goal
 
 pub write_lake-requires : goal.write_lake-requires

@@ -1,12 +1,9 @@
 -- `lake_text::write_rows` meets its contract: after each turn one line more is written.
 -- Assumes nothing.
-use mathlib.Core.Path.{refl, ◌∙◌, ◌≡◌}
+use mathlib.Core.Path.{◌≡◌}
 use Prim.Native.Nat.{◌-◌, ◌≤◌}
-use native.Mathlib.Omega.{arith}
 use lib.ListN.{length}
-use borrow.Author.Rules.{rules}
-use Rattle.lake_text.proofs.Lines.{lines, lines_next, lines-within}
-use Rattle.text.proofs.Writing.{wrote_none, wrote_then}
+use Rattle.lake_text.proofs.Lines.{lines}
 use Rattle.text.specs.Writing.{Wrote}
 use Rattle.lake_text.proofs.write_rows.Given as goal
 
