@@ -8,9 +8,9 @@ use Rattle.ground.specs.declared.Judged.{Judged}
 use Rattle.rules.specs.declared.Manner.TheVariants.{Carve}
 
 -- the record call: the judgement, and the lent record as it leaves it
-abbrev pub Called : (ground before : List ℕ) (r : Judged) (after : List ℕ) → Type 0
+abbrev pub Called : (bytes before : List ℕ) (r : Judged) (after : List ℕ) → Type 0
 Called = CalledBy Four Carve
 
 -- the same for C: the judgement as one number
-abbrev pub CalledFromC : (ground before : List ℕ) (r : ℕ) (after : List ℕ) → Type 0
+abbrev pub CalledFromC : (bytes before : List ℕ) (r : ℕ) (after : List ℕ) → Type 0
 CalledFromC = CalledFromCBy Four Carve

@@ -29,13 +29,13 @@ lakes_answer_to (Listed n) = n
 lakes_answer_to (Refused why) = lakes_number (Refused why) * 65536 + lakes_place (Refused why)
 lakes_answer_to (TooDeep c) = lakes_number (TooDeep c) * 65536 + lakes_place (TooDeep c)
 
-module _ (ground before : List ℕ) where
+module _ (bytes before : List ℕ) where
   -- the record's judgement, and that of its lakes, with the room
   abbrev pub lakes_judgement : LakesAnswer
-  lakes_judgement = judge_lakes (judge_record any_room ground) (ground_of_record ground) (lakes_room before)
+  lakes_judgement = judge_lakes (judge_record any_room bytes) (ground_of_record bytes) (lakes_room before)
 
   abbrev pub lakes_room_left : LakesAnswer → List ℕ
-  lakes_room_left r = room_left r (lakes_on (ground_of_record ground)) before
+  lakes_room_left r = room_left r (lakes_on (ground_of_record bytes)) before
 
   -- the record call
   abbrev pub LakesCalled : (r : LakesAnswer) (after : List ℕ) → Type 0

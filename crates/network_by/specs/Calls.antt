@@ -16,8 +16,8 @@ abbrev pub ListsCounted : (count manner : ℕ) (g : Ground) (before : Network �
 ListsCounted count manner g before = Counted count manner (judge_lists (network_holds before) g) (λ N M j. left j (network_by N M g) before) before
 
 -- a lent record
-abbrev pub RecordCounted : (count manner : ℕ) (ground before : List ℕ) (r : NetworkAnswer) (after : List ℕ) → Type 0
-RecordCounted count manner ground before = Counted count manner (judgement ground before) (λ N M. left_record_by N M ground before) before
+abbrev pub RecordCounted : (count manner : ℕ) (bytes before : List ℕ) (r : NetworkAnswer) (after : List ℕ) → Type 0
+RecordCounted count manner bytes before = Counted count manner (judgement bytes before) (λ N M. left_record_by N M bytes before) before
 
 -- the answer as one number, for C: the length written, or the refusal's number times 65,536 plus its place
 abbrev pub network_answer_to : NetworkAnswer → ℕ
@@ -25,13 +25,13 @@ network_answer_to BadCount = network_number BadCount * 65536 + network_place Bad
 network_answer_to BadManner = network_number BadManner * 65536 + network_place BadManner
 network_answer_to (Tile j) = answer_to j
 
-module _ (count manner : ℕ) (ground before : List ℕ) where
+module _ (count manner : ℕ) (bytes before : List ℕ) where
   -- the judgement of count and manner, and then the record's
   abbrev pub counted_judgement : NetworkAnswer
-  counted_judgement = judged_by (asked_for count manner) (judgement ground before)
+  counted_judgement = judged_by (asked_for count manner) (judgement bytes before)
 
   -- the call for C
   abbrev pub RecordCountedFromC : (r : ℕ) (after : List ℕ) → Type 0
   RecordCountedFromC =
       Allowed (network_answer_to counted_judgement)
-      (λ _. left_by (asked_for count manner) (λ N M. left_record_by N M ground before) before counted_judgement)
+      (λ _. left_by (asked_for count manner) (λ N M. left_record_by N M bytes before) before counted_judgement)

@@ -28,18 +28,18 @@ answer_to (Accepted w h) = network_bytes (h * w)
 answer_to (Refused why) = refusal_number why * 65536 + refusal_place why
 
 -- the record's judgement, with the lent record as room; it knows neither neighbours nor manner
-abbrev pub judgement : (ground before : List ℕ) → Judged
-judgement ground before = judge_record (room_of before) ground
+abbrev pub judgement : (bytes before : List ℕ) → Judged
+judgement bytes before = judge_record (room_of before) bytes
 
-module _ (N : Neighbours) (M : Manner) (ground before : List ℕ) where
+module _ (N : Neighbours) (M : Manner) (bytes before : List ℕ) where
   -- the lent record after an answer: the network record of the ground at its start where accepted, and as it was where refused
   abbrev pub left_record_by : Judged → List ℕ
-  left_record_by r = leaves r (network_record_by N M (ground_of_record ground)) before
+  left_record_by r = leaves r (network_record_by N M (ground_of_record bytes)) before
 
   -- the record call: the judgement, and the lent record as it leaves it
   abbrev pub CalledBy : (r : Judged) (after : List ℕ) → Type 0
-  CalledBy = Allowed (judgement ground before) left_record_by
+  CalledBy = Allowed (judgement bytes before) left_record_by
 
   -- the same for C: the judgement as one number
   abbrev pub CalledFromCBy : (r : ℕ) (after : List ℕ) → Type 0
-  CalledFromCBy = Allowed (answer_to (judgement ground before)) (λ _. left_record_by (judgement ground before))
+  CalledFromCBy = Allowed (answer_to (judgement bytes before)) (λ _. left_record_by (judgement bytes before))

@@ -1,7 +1,6 @@
 -- `lakes::lakes_text` meets its contract: an accepted record and a refused input, each by its law.
 -- Assumes nothing.
 use mathlib.Core.Path.{sym, ◌∙◌}
-use borrow.Author.Rules.{rules}
 use Rattle.lakes.specs.Program.{ground_lakes_text, lakes_program_text}
 use Rattle.record_text.proofs.Input.{accepted_text, input_readable, refused_text_lem}
 use Rattle.text.proofs.Writing.{printed_same}

@@ -3,7 +3,6 @@
 use mathlib.Core.List.{List}
 use Prim.Native.Nat.{ℕ}
 use native.Mathlib.Omega.{arith}
-use borrow.Author.Rules.{rules}
 use Rattle.ground.specs.Record.{ground_in}
 use Rattle.lake_stages.proofs.FoundLakes.{found_read}
 use Rattle.lake_stages.proofs.ReadLakes.{lakes_found}
