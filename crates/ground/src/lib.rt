@@ -136,7 +136,8 @@ fn judge_cells_of_record(bytes: &[u8], width: u16, height: u16) -> Judged
     ensures { result ≡ judge_cells (ground_in bytes.now width height) }
 {
     let n = cells(width, height);
-    if greatest::greatest_height_of_record(bytes, n) > 16_000_000 {
+    let is_high = greatest::greatest_height_of_record(bytes, n) > 16_000_000;
+    if is_high {
         let bad = search::first_bad_in_bytes(
             bytes,
             Sought::Height,

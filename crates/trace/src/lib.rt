@@ -56,7 +56,7 @@ fn walk(receivers: &[u16], start: Cell, limit: u32) -> TraceAnswer
 {
     let mut cell = start.0;
     let mut steps: u32 = 0;
-    loop {
+    'steps: loop {
         let entry = receivers[cell as usize];
         let index = entry as usize;
         if receivers.len() <= index {

@@ -12,42 +12,34 @@ use Rattle.ground.specs.Record.{ground_in, lifts_in}
 use Rattle.lists.specs.Greatest.{greatest}
 use Rattle.lists.specs.Lists.{Below}
 use Rattle.ground.proofs.judge_cells_of_record.Goals as goal
-use Rattle.ground.proofs.judge_cells_of_record.Goals.{After-greatest_height_of_record, After-shared_slice_known-1}
+use Rattle.ground.proofs.judge_cells_of_record.Goals.{After-greatest_height_of_record-is_high, After-shared_slice_known-1}
 
 bytes_below : (c : After-shared_slice_known-1) → Below 256 c.args.bytes.now
 bytes_below c k l = omega (arith, c.shared_slice_known-1.given k)
 
 -- what the pass gave is the greatest height of all N cells
-greatest-of-all : (c : After-greatest_height_of_record)
+greatest-of-all : (c : After-greatest_height_of_record-is_high)
     → let a = c.args in
-    c.greatest_height_of_record.result ≡ greatest (lifts_in a.bytes.now (a.height * a.width))
-greatest-of-all c = rw c.cells-n.ensures at c.greatest_height_of_record.ensures
+    c.greatest_height_of_record-is_high.result ≡ greatest (lifts_in a.bytes.now (a.height * a.width))
+greatest-of-all c = rw c.cells-n.ensures at c.greatest_height_of_record-is_high.ensures
 
-pub first_bad_in_bytes-bad-requires : goal.first_bad_in_bytes-bad-requires
-first_bad_in_bytes-bad-requires c = rw (c.wide-then-greatest_height_of_record-gt16000000.ensures.0, c.wide.ensures.0) (search rules)
-
-pub overflow_cast-result : goal.overflow_cast-result
-overflow_cast-result c =
-    let n = rows_fit c.args.height c.args.width c.requires.1 c.requires.0 in
-    omega (arith, rw (c.wide-then-greatest_height_of_record-gt16000000.ensures.0, c.wide.ensures.0) at c.first_bad_in_bytes-bad.ensures.1)
-
-pub returns-then-greatest_height_of_record-gt16000000 : goal.returns-then-greatest_height_of_record-gt16000000
-returns-then-greatest_height_of_record-gt16000000 c =
+pub returns-then-is_high : goal.returns-then-is_high
+returns-then-is_high c =
     let bytes = c.args.bytes.now in
     let e =
-    rw (c.wide-then-greatest_height_of_record-gt16000000.ensures.0, c.wide.ensures.0) at c.first_bad_in_bytes-bad.ensures.0
+    rw (c.wide-then-is_high.ensures.0, c.wide.ensures.0) at c.first_bad_in_bytes-bad.ensures.0
     ∙ bad_in_record_found bytes (c.args.height * c.args.width) in
-    let above = rw (greatest-of-all (goal.at.returns-then-greatest_height_of_record-gt16000000 c).After-greatest_height_of_record) at
-    c.if-greatest_height_of_record-gt16000000.true in
+    let above = rw (greatest-of-all (goal.at.returns-then-is_high c).After-greatest_height_of_record-is_high) at
+    c.if-is_high.true in
     let found = some_bad_height bytes (c.args.height * c.args.width)
-    (bytes_below (goal.at.returns-then-greatest_height_of_record-gt16000000 c).After-shared_slice_known-1) (omega arith) above in
+    (bytes_below (goal.at.returns-then-is_high c).After-shared_slice_known-1) (omega arith) above in
     heights_bad (ground_in bytes c.args.width c.args.height) e (rw e found)
 
 pub returns : goal.returns
 returns c =
     let bytes = c.args.bytes.now in
     let n = c.args.height * c.args.width in
-    let within = rw (greatest-of-all (goal.at.returns c).After-greatest_height_of_record) at c.if-greatest_height_of_record-gt16000000.false in
+    let within = rw (greatest-of-all (goal.at.returns c).After-greatest_height_of_record-is_high) at c.if-is_high.false in
     let none = no_bad_height bytes n (bytes_below (goal.at.returns c).After-shared_slice_known-1) (omega arith) within in
     let w : 5 * n - 4 * n ≡ n = omega arith in
     heights_good (ground_in bytes c.args.width c.args.height) (sym none) (omega arith)

@@ -7,10 +7,10 @@ use lib.ListN.{length}
 use Rattle.rules.specs.Trace.{trace_from}
 use Rattle.trace.proofs.walk.Given as goal
 
-abbrev pub invariant-loop-limit : goal.invariant-loop-limit
-invariant-loop-limit l =
+abbrev pub invariant-steps : goal.invariant-steps
+invariant-steps l =
     (l.cell < length l.receivers) × (l.steps ≤ l.limit) × (trace_from l.receivers l.limit 0 l.initial.cell ≡ trace_from l.receivers (l.limit - l.steps)
     l.steps l.cell)
 
-abbrev pub decreases-loop-limit : goal.decreases-loop-limit
-decreases-loop-limit l = l.limit - l.steps
+abbrev pub decreases-steps : goal.decreases-steps
+decreases-steps l = l.limit - l.steps
