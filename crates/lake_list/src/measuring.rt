@@ -18,13 +18,14 @@ pub struct Row {
     pub volume: u64,
 }
 
-// The height of a flagged cell, and 0 of any other.
+// The height of a flagged cell, and 0 of any other. The height is read first, so that the compiler makes no branch of it.
 fn flagged_height(heights: &[u32], flags: &[u8], c: Cell) -> u32
     requires { (c.0 < length heights.now) × (c.0 < length flags.now) }
     ensures { result ≡ flag_height heights.now flags.now c.0 }
 {
+    let height = heights[c.0 as usize];
     if is_flagged(flags[c.0 as usize]) {
-        heights[c.0 as usize]
+        height
     } else {
         0
     }
