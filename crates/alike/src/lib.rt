@@ -32,15 +32,13 @@ fn column(neighbours: Neighbours, above: bool, below: bool, upper: u8, side: u8,
     }
 }
 
-// The masks of the row that starts at b, by the three columns of a window in that row. In the loop the cells before column x have theirs.
+// The masks of the row that starts at b, by the three columns of a window in that row.
 fn store_row(w: usize, b: usize, left: u8, middle: u8, right: u8, out: &mut [u8])
     requires { (b + w ≤ length out.old) × (b + w ≤ 4096) × (middle + left + right < 256) }
     ensures { Puts (λ k. in_column w left middle right (k - b)) b (b + w) out.old out.new }
 {
-    let mut x = 0;
-    while x < w {
+    for x in 0..w {
         out[b + x] = middle + bits_if(0 < x, left) + bits_if(x + 1 < w, right);
-        x += 1;
     }
 }
 
@@ -57,15 +55,13 @@ fn row_masks(neighbours: Neighbours, w: usize, n: usize, b: usize, out: &mut [u8
     store_row(w, b, left, middle, right, out);
 }
 
-// The masks of the neighbours of all n cells, row by row: in the loop the cells before b have theirs.
+// The masks of the neighbours of all n cells, row by row.
 pub fn neighbour_masks(neighbours: Neighbours, w: usize, n: usize, out: &mut [u8])
     requires { Grid w n × (n ≤ length out.old) }
     ensures { out.new ≡ filled (neighbour_mask neighbours w n) n out.old }
 {
-    let mut b = 0;
-    while b < n {
-        row_masks(neighbours, w, n, b, out);
-        b += w;
+    for row in 0..n / w {
+        row_masks(neighbours, w, n, row * w, out);
     }
 }
 
@@ -120,17 +116,16 @@ fn like_mask(neighbours: Neighbours, w: usize, mask: u8, labels: &[u32], c: usiz
     }
 }
 
-// The masks of the neighbours with the same label, from those of all neighbours; the labels have a margin. In the loop the cells before c
-// have theirs.
+// The masks of the neighbours with the same label, from those of all neighbours; the labels have a margin.
 pub fn like_masks(neighbours: Neighbours, w: usize, masks: &[u8], labels: &[u32], out: &mut [u8])
     requires grid { Grid w (length masks.now) × Masks around w (length masks.now) (beside (places_by neighbours) w) masks.now }
     requires masks_in_bounds { (length masks.now + 130 ≤ length labels.now) × (length masks.now ≤ length out.old) }
     ensures { out.new
         ≡ filled (like_mask neighbours w (length masks.now) labels.now) (length masks.now) out.old }
 {
-    let mut c = 0;
-    while c < masks.len() {
-        out[c] = like_mask(neighbours, w, masks[c], labels, c);
-        c += 1;
-    }
+    lists::fill(
+        out,
+        masks.len(),
+        |c| like_mask(neighbours, w, masks[c], labels, c),
+    );
 }

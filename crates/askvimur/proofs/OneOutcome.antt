@@ -1,4 +1,4 @@
--- The record call, as an enum and for C: any two outcomes that its contract allows are equal. The contracts are those in src/.
+-- The record call, as a result and for C: any two outcomes that its contract allows are equal. The contracts are those in src/.
 -- Assumes nothing.
 use Rattle.lists.proofs.Determined.{one_outcome}
 use Rattle.lists.specs.Contract.{OneOutcome}

@@ -2,9 +2,9 @@
 -- carved.
 -- Assumes nothing.
 use Rattle.std.specs.Prelude.{List, ℕ}
+use Rattle.ground.specs.Judge.{Judged}
 use Rattle.network_record.specs.RecordCall.{CalledBy, CalledFromCBy}
 use Rattle.grid.specs.declared.Neighbours.TheVariants.{Four}
-use Rattle.ground.specs.declared.Judged.{Judged}
 use Rattle.rules.specs.declared.Manner.TheVariants.{Carve}
 
 -- the record call: the judgement, and the lent record as it leaves it

@@ -1,4 +1,4 @@
--- The record call that lists lakes, as an enum and for C, and the network over the neighbours asked for, for C: any two outcomes that a
+-- The record call that lists lakes, as a result and for C, and the network over the neighbours asked for, for C: any two outcomes that a
 -- contract in src/ allows are equal.
 -- Assumes nothing.
 use Rattle.lists.proofs.Determined.{one_outcome}

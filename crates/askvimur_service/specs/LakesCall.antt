@@ -1,17 +1,16 @@
 -- W-202: what the record call that lists lakes, and the C call, give back and leave.
 -- Assumes nothing.
-use Rattle.std.specs.Prelude.{List, ℕ, ◌*◌, ◌+◌, ◌/◌, length}
+use Rattle.std.specs.Prelude.{Err, List, Ok, ℕ, ◌*◌, ◌+◌, ◌/◌, length}
 use Rattle.ground.specs.Judge.{judge_record}
 use Rattle.ground.specs.Record.{ground_of_record}
 use Rattle.ground.specs.Rooms.{any_room}
 use Rattle.lake_bytes.specs.LakeBytes.{lakes_bytes}
-use Rattle.lake_calls.specs.LakeCall.{judge_lakes, lakes_number, lakes_place}
+use Rattle.lake_calls.specs.LakeCall.{judge_lakes, LakesAnswer, lakes_number, lakes_place}
 use Rattle.lake_rules.specs.Lakes.{Lake}
 use Rattle.lake_stages.specs.LakesOn.{lakes_on}
 use Rattle.lists.specs.Allowed.{Allowed}
 use Rattle.lists.specs.Lists.{overwrite}
-use Rattle.lake_calls.specs.declared.LakesAnswer.{LakesAnswer}
-use Rattle.lake_calls.specs.declared.LakesAnswer.TheVariants.{Listed, Refused, TooDeep}
+use Rattle.lake_calls.specs.declared.LakesRefusal.TheVariants.{Ground as Refused, TooDeep}
 
 -- a room has as many lakes as whole 16 bytes fit
 abbrev pub lakes_room : List ℕ → ℕ
@@ -19,15 +18,14 @@ lakes_room room = length room / 16
 
 -- the room after an answer: the lakes' bytes at its start where they are listed, and as it was where refused
 abbrev pub room_left : LakesAnswer → List Lake → List ℕ → List ℕ
-room_left (Listed n) ls before = overwrite (lakes_bytes ls) before
-room_left (Refused why) ls before = before
-room_left (TooDeep c) ls before = before
+room_left (Ok n) ls before = overwrite (lakes_bytes ls) before
+room_left (Err (Refused why)) ls before = before
+room_left (Err (TooDeep c)) ls before = before
 
 -- the answer for C: how many lakes, or the refusal's number times 65,536 plus its place
 abbrev pub lakes_answer_to : LakesAnswer → ℕ
-lakes_answer_to (Listed n) = n
-lakes_answer_to (Refused why) = lakes_number (Refused why) * 65536 + lakes_place (Refused why)
-lakes_answer_to (TooDeep c) = lakes_number (TooDeep c) * 65536 + lakes_place (TooDeep c)
+lakes_answer_to (Ok n) = n
+lakes_answer_to (Err why) = lakes_number (Err why) * 65536 + lakes_place (Err why)
 
 module _ (bytes before : List ℕ) where
   -- the record's judgement, and that of its lakes, with the room

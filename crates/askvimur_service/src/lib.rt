@@ -2,10 +2,10 @@
 // over 4 or 8 neighbours (W-203), carved or as a sheet (W-205).
 #![tactic(auto)]
 
-ghost use Rattle.std.specs.Prelude.{List, ◌≡◌, ℕ, ◌*◌, ◌+◌};
+ghost use Rattle.std.specs.Prelude.{List, ◌≡◌, ℕ};
 ghost use Rattle.askvimur_service.specs.LakesCall.{LakesCalled, LakesCalledFromC, lakes_answer_to, lakes_room, room_left};
 ghost use Rattle.ground.specs.Record.{ground_in};
-ghost use Rattle.lake_calls.specs.LakeCall.{judge_found, lakes_number, lakes_place};
+ghost use Rattle.lake_calls.specs.LakeCall.{judge_found};
 ghost use Rattle.lake_list.specs.Rows.{found_of};
 ghost use Rattle.lake_rules.specs.Lakes.{Lake};
 ghost use Rattle.lake_stages.specs.LakesOn.{lakes_on, too_deep_on};
@@ -14,39 +14,33 @@ ghost use Rattle.lists.specs.Allowed.{Allowed};
 ghost use Rattle.network_by.specs.Calls.{RecordCountedFromC};
 ghost use Rattle.record_stages.specs.Readable.{Readable};
 
-use ground::Judged;
+use ground::Size;
 use lake_bytes::write_lakes;
 use lake_calls::{LakesAnswer, judge_found, lakes_number, lakes_place};
-use lake_list::Found;
+use lake_list::{NO_ROW, Row, TooDeep};
 use lake_stages::record_lakes;
 use network_by::network_of_record;
 
 // The answer to what was found; the lakes' bytes are written where that lists them.
-fn write_found(found: Found, rows: &[u64], lakes: &mut [u8]) -> LakesAnswer
+fn write_found(found: Result<u16, TooDeep>, rows: &[Row], lakes: &mut [u8]) -> LakesAnswer
     requires { (deep : List (List ℕ)) × (ls : List Lake) × ReadFound deep ls found rows.now }
     ensures { (deep : List (List ℕ)) → (ls : List Lake) → ReadFound deep ls found rows.now
         → Allowed (judge_found (found_of deep ls) (lakes_room lakes.old)) (λ r. room_left r ls lakes.old) result lakes.new }
 {
-    let answer = judge_found(found, lakes.len() / 16);
-    match answer {
-        LakesAnswer::Listed(n) => {
-            write_lakes(lakes, rows, n as usize);
-            LakesAnswer::Listed(n)
-        }
-        LakesAnswer::Refused(why) => LakesAnswer::Refused(why),
-        LakesAnswer::TooDeep(cell) => LakesAnswer::TooDeep(cell),
-    }
+    let count = judge_found(found, lakes.len() / 16)?;
+    write_lakes(lakes, rows, count as usize);
+    Ok(count)
 }
 
-// The lakes of an accepted ground record of width by height cells. Work space: 64 KB, and that of finding lakes.
-fn list_accepted(ground: &[u8], width: u16, height: u16, lakes: &mut [u8]) -> LakesAnswer
-    requires { Readable ground.now width height }
-    ensures { let g = ground_in ground.now width height in
+// The lakes of an accepted ground record of this size. Work space: 64 KB, and that of finding lakes.
+fn list_accepted(ground: &[u8], size: Size, lakes: &mut [u8]) -> LakesAnswer
+    requires { Readable ground.now size.width size.height }
+    ensures { let g = ground_in ground.now size.width size.height in
         Allowed (judge_found (found_of (too_deep_on g) (lakes_on g)) (lakes_room lakes.old)) (λ r. room_left r (lakes_on g) lakes.old)
         result lakes.new }
 {
-    let mut rows = [0u64; 8192];
-    let found = record_lakes(ground, width, height, &mut rows);
+    let mut rows = [NO_ROW; 4096];
+    let found = record_lakes(ground, size, &mut rows);
     write_found(found, &rows, lakes)
 }
 
@@ -55,30 +49,17 @@ fn list_accepted(ground: &[u8], width: u16, height: u16, lakes: &mut [u8]) -> La
 pub fn lakes_of_record(ground: &[u8], lakes: &mut [u8]) -> LakesAnswer
     ensures { LakesCalled ground.now lakes.old result lakes.new }
 {
-    let judged = ground::check_record(ground);
-    match judged {
-        Judged::Refused(why) => LakesAnswer::Refused(why),
-        Judged::Accepted(width, height) => list_accepted(ground, width, height, lakes),
-    }
+    let size = ground::check_record(ground)?;
+    list_accepted(ground, size, lakes)
 }
 
-// A refusal for C: its number times 65,536 plus its place.
-fn refusal_answer(answer: LakesAnswer) -> u32
-    ensures { result ≡ lakes_number answer * 65536 + lakes_place answer }
-{
-    let number = lakes_number(answer);
-    let place = lakes_place(answer);
-    number as u32 * 65536 + place as u32
-}
-
-// The answer for C: how many lakes, or the refusal.
+// The answer for C: how many lakes, or the refusal's number times 65,536 plus its place.
 fn answer_for_c(answer: LakesAnswer) -> u32
     ensures { result ≡ lakes_answer_to answer }
 {
     match answer {
-        LakesAnswer::Listed(n) => n as u32,
-        LakesAnswer::Refused(why) => refusal_answer(LakesAnswer::Refused(why)),
-        LakesAnswer::TooDeep(cell) => refusal_answer(LakesAnswer::TooDeep(cell)),
+        Ok(count) => u32::from(count),
+        Err(_) => u32::from(lakes_number(answer)) * 65536 + u32::from(lakes_place(answer)),
     }
 }
 

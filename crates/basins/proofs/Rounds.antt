@@ -1,6 +1,6 @@
 -- A round of jumping: every entry leads at least twice as far along the way as before, and where none moved each leads to one that stays.
 -- Assumes nothing.
-use mathlib.Core.Bool.{Bool, cond, false, true, true≢false}
+use mathlib.Core.Bool.{Bool, cond, false, not, true, true≢false, ◌||◌}
 use mathlib.Core.List.{List}
 use mathlib.Core.Logic.{inl, inr, ◌⊎◌}
 use mathlib.Core.Path.{ap, refl, subst, sym, ◌∙◌, ◌≡◌}
@@ -32,6 +32,16 @@ pub moved_next : (i : ℕ) (entries : List ℕ)
     → any_moved (i + 1) entries ≡ moved_on (any_moved i entries) (at (jumped i entries) i) (at (jumped i entries) (at (jumped i entries) i))
 unfolding any_moved
 moved_next i entries = rw add-one
+
+-- moved before, or two cells differ
+pub moved_or : (before : Bool) (a b : ℕ) → before || not (eqb a b) ≡ moved_on before a b
+moved_or before a b = go before (eqb a b)
+  where
+    go : (x y : Bool) → x || not y ≡ cond y x true
+    go true true = refl
+    go true false = refl
+    go false true = refl
+    go false false = refl
 
 pub jumped-none : (entries : List ℕ) → jumped 0 entries ≡ entries
 unfolding jumped

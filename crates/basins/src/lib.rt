@@ -3,7 +3,7 @@
 #![tactic(auto)]
 
 ghost use Rattle.std.specs.Prelude.{◌≡◌, ◌+◌, ◌<◌, ◌≤◌, eqb, length};
-ghost use Rattle.basins.specs.Jumps.{any_moved, FirstReceivers, jumped, moved_on, one_if, singular_below, Within};
+ghost use Rattle.basins.specs.Jumps.{any_moved, FirstReceivers, jumped, one_if, singular_below, Within};
 ghost use Rattle.basins.specs.Labels.{label_by};
 ghost use Rattle.basins.specs.Numbering.{BasinsNumbered};
 ghost use Rattle.lists.specs.Lists.{at, filled};
@@ -14,26 +14,17 @@ ghost use Rattle.rules.specs.Land.{Land};
 use kinds::{Basin, Cell};
 use rules::is_outlet;
 
-// Some entry has moved: one before, or this one from one cell to another.
-fn has_moved(before: bool, from: Cell, to: Cell) -> bool
-    ensures { result ≡ moved_on before from.0 to.0 }
-{
-    if from.0 == to.0 { before } else { true }
-}
-
 // One round: each entry jumps to its entry's entry. Says whether any moved.
 fn jump(entries: &mut [u16], n: usize) -> bool
     requires { (n ≤ length entries.old) × Within n entries.old }
     ensures { (entries.new ≡ jumped n entries.old) × (result ≡ any_moved n entries.old) }
 {
     let mut moved = false;
-    let mut c = 0;
-    while c < n {
+    for c in 0..n {
         let d = entries[c];
-        let e = entries[d as usize];
+        let e = entries[usize::from(d)];
         entries[c] = e;
-        moved = has_moved(moved, Cell(d), Cell(e));
-        c += 1;
+        moved |= d != e;
     }
     moved
 }
@@ -44,6 +35,7 @@ fn singular_cells(entries: &mut [u16], n: usize)
     ensures { (L : Land) → FirstReceivers L n entries.old → entries.new ≡ filled (singular_of L) n entries.old }
 {
     let mut steps = 1;
+    // Stays: the steps double, and a range counts by one.
     while steps < n {
         let moved = jump(entries, n);
         if !moved {
@@ -58,11 +50,7 @@ fn next_number(number: Basin, receiver: Cell, c: Cell) -> Basin
     requires { number.0 < 65535 }
     ensures { result.0 ≡ number.0 + one_if (eqb receiver.0 c.0) }
 {
-    if receiver.0 == c.0 {
-        Basin(number.0 + 1)
-    } else {
-        number
-    }
+    Basin(number.0 + u16::from(receiver == c))
 }
 
 // For each cell, how many cells of lesser number are singular: at a singular cell, the number of its basin.
@@ -71,11 +59,9 @@ fn number_basins(receivers: &[u16], n: usize, numbers: &mut [u16])
     ensures { numbers.new ≡ filled (singular_below receivers.now) n numbers.old }
 {
     let mut number = Basin(0);
-    let mut c = 0;
-    while c < n {
+    for c in 0..n {
         numbers[c] = number.0;
         number = next_number(number, Cell(receivers[c]), Cell(c as u16));
-        c += 1;
     }
 }
 
@@ -96,13 +82,11 @@ fn look_up(numbers: &[u16], marks: &[u8], n: usize, entries: &mut [u16], labels:
         n labels.old }
 {
     let all = Basin(n as u16);
-    let mut c = 0;
-    while c < n {
-        let d = entries[c] as usize;
+    for c in 0..n {
+        let d = usize::from(entries[c]);
         let number = numbers[d];
         entries[c] = number;
         labels[c] = label_of(all, is_outlet(marks[d]), Basin(number)).0;
-        c += 1;
     }
 }
 

@@ -4,7 +4,7 @@ use mathlib.Core.List.{List, ◌++◌}
 use mathlib.Core.Path.{ap, ◌∙◌, ◌≡◌}
 use Prim.Native.Nat.{ℕ, ◌*◌}
 use Rattle.drain.specs.Drain.{drain_text}
-use Rattle.ground.specs.Judge.{judge_record}
+use Rattle.ground.specs.Judge.{Accepted, judge_record}
 use Rattle.ground.specs.Record.{ground_in}
 use Rattle.ground.specs.Rooms.{any_room}
 use Rattle.lists.specs.Lists.{sum}
@@ -15,7 +15,6 @@ use Rattle.rules.specs.Ground.{Ground}
 use Rattle.rules.specs.Network.{network}
 use Rattle.text.proofs.Balance.{sums_agree}
 use Rattle.text.specs.Text.{cell_lines, ground_text, size_line, sums_line, tile_text}
-use Rattle.ground.specs.declared.Judged.TheVariants.{Accepted}
 
 module _ (s : List ℕ) {w h : ℕ} (accepted : judge_record any_room s ≡ Accepted w h) where
   abbrev g : Ground

@@ -15,8 +15,7 @@ ghost use Rattle.text.specs.Text.{ground_text};
 ghost use Rattle.text.specs.Writing.{most_text, Printed};
 
 use grid::Neighbours;
-use ground::Judged;
-use inputs::read_full;
+use ground::Size;
 use record_stages::{link_record, walk_record};
 use rules::Manner;
 use std::io;
@@ -25,29 +24,28 @@ use std::io::{Read, Write};
 // The text of the ground in a record, from the lists that its network stands at the start of. Work space: 8 KB.
 fn print_lists(
     bytes: &[u8],
-    width: u16,
-    height: u16,
+    size: Size,
     receivers: &[u16],
     levels: &[u32],
     drainage: &[u32],
     text: &mut [u8],
 ) -> usize
-    requires readable { Readable bytes.now width height }
-    requires receivers_value { (take (height * width) receivers.now ≡ (lifted_network_of (ground_in bytes.now width height)).receivers)
-        × (take (height * width) levels.now ≡ (lifted_network_of (ground_in bytes.now width height)).levels)
-        × (take (height * width) drainage.now ≡ (lifted_network_of (ground_in bytes.now width height)).drainage) }
+    requires readable { Readable bytes.now size.width size.height }
+    requires receivers_value { let network = lifted_network_of (ground_in bytes.now size.width size.height) in
+        let n = size.height * size.width in
+        (take n receivers.now ≡ network.receivers) × (take n levels.now ≡ network.levels) × (take n drainage.now ≡ network.drainage) }
     requires most_text_in_bounds { most_text ≤ length text.old }
-    ensures { Printed (ground_text (ground_in bytes.now width height)) text.old text.new result }
+    ensures { Printed (ground_text (ground_in bytes.now size.width size.height)) text.old text.new result }
 {
-    let n = ground::cells(width, height);
+    let n = ground::cells(size.width, size.height);
     let from = 4 * n;
     let to = 5 * n;
     let mut water = [0u16; 4096];
-    sections::read_section_u16(bytes, to, n, &mut water);
+    sections::read_section(bytes, to, n, &mut water);
     text::write_tile(
         text,
-        width,
-        height,
+        size.width,
+        size.height,
         n,
         receivers,
         levels,
@@ -60,16 +58,15 @@ fn print_lists(
 // The text of the ground in a record whose cells are linked. Work space: 52 KB, taken only once the cells are linked.
 fn print_linked(
     bytes: &[u8],
-    width: u16,
-    height: u16,
+    size: Size,
     lifted: &[u32],
     links: &mut [u8],
     text: &mut [u8],
 ) -> usize
-    requires readable { Readable bytes.now width height }
-    requires linked_record { LinkedRecord Four bytes.now width height lifted.now links.old × (length links.old ≡ 4226) }
+    requires readable { Readable bytes.now size.width size.height }
+    requires linked_record { LinkedRecord Four bytes.now size.width size.height lifted.now links.old × (length links.old ≡ 4226) }
     requires most_text_in_bounds { most_text ≤ length text.old }
-    ensures { Printed (ground_text (ground_in bytes.now width height)) text.old text.new result }
+    ensures { Printed (ground_text (ground_in bytes.now size.width size.height)) text.old text.new result }
 {
     let mut receivers = [0u16; 4096];
     let mut order = [0u16; 4096];
@@ -80,8 +77,7 @@ fn print_linked(
         Neighbours::Four,
         Manner::Carve,
         bytes,
-        width,
-        height,
+        size,
         lifted,
         links,
         &mut receivers,
@@ -90,14 +86,14 @@ fn print_linked(
         &mut drainage,
         &mut wet,
     );
-    print_lists(bytes, width, height, &receivers, &levels, &drainage, text)
+    print_lists(bytes, size, &receivers, &levels, &drainage, text)
 }
 
-// The text of the ground in an accepted record of width by height cells. Work space: 28 KB, and that of linking or of printing.
-fn print_tile(bytes: &[u8], width: u16, height: u16, text: &mut [u8]) -> usize
-    requires readable { Readable bytes.now width height }
+// The text of the ground in an accepted record of this size. Work space: 28 KB, and that of linking or of printing.
+fn print_tile(bytes: &[u8], size: Size, text: &mut [u8]) -> usize
+    requires readable { Readable bytes.now size.width size.height }
     requires most_text_in_bounds { most_text ≤ length text.old }
-    ensures { Printed (ground_text (ground_in bytes.now width height)) text.old text.new result }
+    ensures { Printed (ground_text (ground_in bytes.now size.width size.height)) text.old text.new result }
 {
     let mut lifted = [0u32; 4096];
     let mut basins = [0u16; 4096];
@@ -105,13 +101,12 @@ fn print_tile(bytes: &[u8], width: u16, height: u16, text: &mut [u8]) -> usize
     link_record(
         Neighbours::Four,
         bytes,
-        width,
-        height,
+        size,
         &mut lifted,
         &mut basins,
         &mut links,
     );
-    print_linked(bytes, width, height, &lifted, &mut links, text)
+    print_linked(bytes, size, &lifted, &mut links, text)
 }
 
 // The text for an input, and how many bytes it takes.
@@ -119,10 +114,9 @@ fn drain_text(bytes: &[u8], text: &mut [u8]) -> usize
     requires { most_text ≤ length text.old }
     ensures { Printed (drain_text bytes.now) text.old text.new result }
 {
-    let judged = record_text::judge_input(bytes);
-    match judged {
-        Judged::Accepted(width, height) => print_tile(bytes, width, height, text),
-        Judged::Refused(why) => record_text::write_refusal(text, why),
+    match record_text::judge_input(bytes) {
+        Ok(size) => print_tile(bytes, size, text),
+        Err(why) => record_text::write_refusal(text, why),
     }
 }
 
@@ -131,11 +125,7 @@ fn drain_text(bytes: &[u8], text: &mut [u8]) -> usize
 fn answer<R: Read, W: Write>(input: &mut R, output: &mut W) -> io::Result<()>
     ensures { OnOk result (IfSome (R.remaining input.old) (λ s. Appends (W.contents output.old) (W.contents output.new) (drain_text s))) }
 {
-    let mut bytes = [0u8; 28689];
-    let mut text = [0u8; 131072];
-    let got = read_full(input, &mut bytes)?;
-    let len = drain_text(&bytes[..got], &mut text);
-    output.write_all(&text[..len])
+    inputs::answer::<R, W, _, 28689, 131_072>(input, output, drain_text)
 }
 
 fn main(rt: HostRuntime) -> io::Result<()> {

@@ -5,40 +5,29 @@
 ghost use Rattle.std.specs.Prelude.{List, ◌≡◌, ℕ, ◌*◌, ◌+◌, ◌<◌, ◌≤◌, length};
 ghost use Rattle.drainage.specs.Giving.{Drained, given, Ordered};
 ghost use Rattle.lists.specs.Lists.{at, filled};
-ghost use Rattle.sections.specs.LittleEndian.{numbers_at};
+ghost use Rattle.sections.specs.LittleEndian.{number_at, numbers_at};
 ghost use Rattle.rules.specs.Land.{Land};
 
-use kinds::Cell;
-
-// A cell's own water as a number that drainage is counted in.
-fn widened(water: u16) -> u32
-    ensures { result ≡ water }
-{
-    water as u32
-}
+use kinds::{Cell, Numbered};
 
 // Each cell's own water, from a list.
 fn own_water(water: &[u16], drainage: &mut [u32])
     requires { length water.now ≤ length drainage.old }
     ensures { drainage.new ≡ filled (at water.now) (length water.now) drainage.old }
 {
-    let mut c = 0;
-    while c < water.len() {
-        drainage[c] = widened(water[c]);
-        c += 1;
-    }
+    lists::fill(drainage, water.len(), |c| u32::from(water[c]));
 }
 
 // Each cell's own water, from the section of a record that starts at index `from`.
 fn section_water(bytes: &[u8], from: usize, n: usize, drainage: &mut [u32])
     requires { (from + 2 * n ≤ length bytes.now) × (n ≤ length drainage.old) }
-    ensures { drainage.new ≡ filled (at (numbers_at 2 bytes.now from n)) n drainage.old }
+    ensures { drainage.new ≡ filled (λ c. number_at 2 bytes.now (from + 2 * c)) n drainage.old }
 {
-    let mut c = 0;
-    while c < n {
-        drainage[c] = widened(sections::read_u16(bytes, from + 2 * c));
-        c += 1;
-    }
+    lists::fill(
+        drainage,
+        n,
+        |c| u32::from(sections::read::<u16>(bytes, from + 2 * c)),
+    );
 }
 
 // Cell c gives all it has to its receiver. An outlet, its own receiver, keeps it.
@@ -47,11 +36,11 @@ fn give(drainage: &mut [u32], c: Cell, receiver: Cell)
     requires c_bound { (receiver.0 ≡ c.0 → ⊥) → at drainage.old receiver.0 + at drainage.old c.0 ≤ 268431360 }
     ensures { drainage.new ≡ given drainage.old c.0 receiver.0 }
 {
-    if c.0 == receiver.0 {
+    if c == receiver {
         return;
     }
-    let both = drainage[receiver.0 as usize] + drainage[c.0 as usize];
-    drainage[receiver.0 as usize] = both;
+    let both = drainage[receiver.index()] + drainage[c.index()];
+    drainage[receiver.index()] = both;
 }
 
 // From the last place of the order to the first, each cell gives to its receiver.
@@ -60,11 +49,9 @@ fn give_all(order: &[u16], receivers: &[u16], drainage: &mut [u32], n: usize)
     requires n_in_bounds { (n ≤ length drainage.old) × ((c : ℕ) → c < n → at drainage.old c ≤ 65535) }
     ensures { Drained n drainage.old order.now receivers.now drainage.old drainage.new }
 {
-    let mut place = n;
-    while 0 < place {
-        place -= 1;
+    for place in (0..n).rev() {
         let c = Cell(order[place]);
-        let receiver = Cell(receivers[c.0 as usize]);
+        let receiver = Cell(receivers[c.index()]);
         give(drainage, c, receiver);
     }
 }

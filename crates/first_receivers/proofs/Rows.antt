@@ -1,10 +1,11 @@
 -- A tile row by row: what `row_weights` stores for the cell in a column is that cell's weight.
 -- Assumes nothing.
-use Rattle.std.proofs.Common.{◌≡◌, ℕ, ◌+◌, ◌-◌, ◌%◌, ◌<◌, ◌≤◌, ltb, leb, List, length, sym, refl, ap, ◌∙◌, mod-eq_of_lt, arith, ltb-false, ltb-true, le-ltb}
-use Rattle.std.proofs.Common.{lt-ltb, le-leb, leb-false, leb-true}
+use Rattle.std.proofs.Common.{◌≡◌, ℕ, ◌*◌, ◌+◌, ◌/◌, ◌%◌, ◌<◌, ◌≤◌, ltb, leb, List, length, sym, refl, ap, ◌∙◌, add-zero, mod-eq_of_lt}
+use Rattle.std.proofs.Common.{arith, ltb-false, ltb-true, le-ltb, lt-ltb, le-leb, leb-false, leb-true}
 use borrow.Author.Tests.{lt-leb}
-use Rattle.first_receivers.specs.Weights.{Crossed, Row, weight, weight_by}
-use Rattle.grid.proofs.Rows.{row-after, row_column, row_fits}
+use native.Mathlib.Nat.{div-add-mod'}
+use Rattle.first_receivers.specs.Weights.{Row, weight, weight_by}
+use Rattle.grid.proofs.Rows.{cell_below, column_of, row-after, row_column, row_fits}
 use Rattle.grid.proofs.Sides.{above_is, below_is, left_is, right_is}
 use Rattle.grid.specs.Sides.{above, below, leftward, rightward}
 use Rattle.grid.specs.Window.{Rows}
@@ -30,6 +31,17 @@ row_of w n b whole s h =
     down : Known (ltb (b + w) n) → below w n b + w ≤ n
     down (is t) = rw t (row_fits w n (b + w) (row-after w b s) whole (ltb-true _ _ t))
     down (isnt t) = rw t (row_fits w n b s whole h)
+
+-- row by row: the rows of n cells are so many, and the row of each number
+pub rows_end : {w n : ℕ} → Rows w n → n / w * w ≡ n
+rows_end {w} {n} G = let e = div-add-mod' n w in let f = G.whole in omega arith
+
+pub row_at : {w n : ℕ} → Rows w n → (row : ℕ) → row < n / w → Row w n (row * w) (above w (row * w)) (below w n (row * w))
+row_at {w} {n} G row h =
+    let below : row * w + 0 < n / w * w = cell_below row 0 w (n / w) h G.wide in
+    let end = rows_end G in
+    let start : row * w % w ≡ 0 = ap (λ (z : ℕ). z % w) (sym (add-zero (row * w))) ∙ column_of w row 0 G.wide in
+    row_of w n (row * w) G.whole start (omega arith)
 
 -- the cells above and below the one in column x
 module _ (w n b up down : ℕ) (whole : n % w ≡ 0) (R : Row w n b up down) (x : ℕ) (in_row : x < w) where
@@ -73,51 +85,3 @@ weight_at_lem N w b up down heights marks G R x h c u l r d ec eu ed el er =
       below_is G on,
       row_column w b x R.start h,
     )
-
--- the cells around that one, in the first column, in a middle one and in the last
-module _ {w n b up down : ℕ} (R : Row w n b up down) where
-  pub first_crossed : {r : ℕ} → 0 < w → r ≡ rightward w 0 b → Crossed n b up b r down
-  first_crossed {r} wide e = go (known (ltb (0 + 1) w))
-    where
-      go : Known (ltb (0 + 1) w) → Crossed n b up b r down
-      go (is t) =
-          let q : 0 + 1 < w = ltb-true _ _ t in
-          let f : r ≡ b + 1 = e ∙ rw t in
-          let a = R.fits in let l = R.up_low in let d = R.down_fits in
-          record {
-            on = omega arith;
-            left = omega arith;
-            right = omega arith;
-            right_on = omega arith;
-            up_west = omega arith;
-            up_east = omega arith;
-            down_west = omega arith;
-            down_east = omega arith;
-          }
-      go (isnt t) =
-          let f : r ≡ b = e ∙ rw t in
-          let a = R.fits in let l = R.up_low in let d = R.down_fits in
-          record {
-            on = omega arith;
-            left = omega arith;
-            right = omega arith;
-            right_on = omega arith;
-            up_west = omega arith;
-            up_east = omega arith;
-            down_west = omega arith;
-            down_east = omega arith;
-          }
-
-  pub inner_crossed : (x r : ℕ) → 0 < x → x < w → r < b + w → b + x ≤ r → r ≤ b + x + 1 → Crossed n (b + x) (up + x) (b + x - 1) r (down + x)
-  inner_crossed x r h k l m o =
-      let a = R.fits in let p = R.up_low in let d = R.down_fits in
-      record {
-        on = omega arith;
-        left = omega arith;
-        right = omega arith;
-        right_on = omega arith;
-        up_west = omega arith;
-        up_east = omega arith;
-        down_west = omega arith;
-        down_east = omega arith;
-      }

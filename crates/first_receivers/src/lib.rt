@@ -13,13 +13,23 @@ ghost use Rattle.rules.specs.Tile.{Tile, tile_land};
 
 use grid::{Neighbours, row_above, row_below};
 use kinds::Cell;
-use lists::least_u32;
+use lists::fill;
 use rules::is_outlet;
 use std::num::wrapping_sub_u16;
 
 // The bits of four places of a window: those of the sides, or those of the corners.
 #[derive(Clone, Copy)]
 struct Bits(u32, u32, u32, u32);
+
+// A cell, and the cells above, left, right and below: the cell itself for one that the tile has not.
+#[derive(Clone, Copy)]
+struct Cross {
+    cell: usize,
+    up: usize,
+    left: usize,
+    right: usize,
+    down: usize,
+}
 
 // The key of cell d at the place of this bit.
 fn key(heights: &[u32], d: usize, bit: u32) -> u32
@@ -45,11 +55,11 @@ fn least_key(
     ensures { let of = S.key heights.now in
         result ≡ min (min (min (min (of c 0) (of d1 bits.0)) (of d2 bits.1)) (of d3 bits.2)) (of d4 bits.3) }
 {
-    let k0 = key(heights, c, 0);
-    let k1 = least_u32(k0, key(heights, d1, bits.0));
-    let k2 = least_u32(k1, key(heights, d2, bits.1));
-    let k3 = least_u32(k2, key(heights, d3, bits.2));
-    least_u32(k3, key(heights, d4, bits.3))
+    key(heights, c, 0)
+        .min(key(heights, d1, bits.0))
+        .min(key(heights, d2, bits.1))
+        .min(key(heights, d3, bits.2))
+        .min(key(heights, d4, bits.3))
 }
 
 // How far the cell of a key lies below a height.
@@ -57,7 +67,7 @@ fn drop_to(height: u32, k: u32) -> u64
     requires { (k ≤ 256 * height) × (height ≤ 16000000) }
     ensures { (result ≡ S.drop_to height k) × (result ≤ 16000000) }
 {
-    (height - k / 256) as u64
+    u64::from(height - k / 256)
 }
 
 // Of the least keys of the sides and of the corners that of the steeper way down (W-203). Squares of drops take 64 bits.
@@ -74,55 +84,43 @@ fn steeper_key(height: u32, straight: u32, diagonal: u32) -> u32
     }
 }
 
-// The key of the steepest way down from cell c, by the cells above, left, right and below, c itself for one that the tile has not.
-fn steepest_key(
-    neighbours: Neighbours,
-    heights: &[u32],
-    c: usize,
-    u: usize,
-    l: usize,
-    r: usize,
-    d: usize,
-) -> u32
-    requires { S.Crossed (length heights.now) c u l r d × ((i : ℕ) → at heights.now i ≤ 16000000) }
-    ensures { result ≡ S.steepest_key neighbours heights.now c u l r d }
+// The key of the steepest way down from a cell.
+#[tactic(auto, unfolding(crate::specs::Weights::steepest_key))]
+fn steepest_key(neighbours: Neighbours, heights: &[u32], x: Cross) -> u32
+    requires { S.Crossed (length heights.now) x.cell x.up x.left x.right x.down × ((i : ℕ) → at heights.now i ≤ 16000000) }
+    ensures { result ≡ S.steepest_key neighbours heights.now x.cell x.up x.left x.right x.down }
 {
-    let straight = least_key(heights, Bits(2, 8, 16, 64), c, u, l, r, d);
+    let sides = Bits(2, 8, 16, 64);
+    let straight = least_key(heights, sides, x.cell, x.up, x.left, x.right, x.down);
     match neighbours {
         Neighbours::Four => straight,
         Neighbours::Eight => {
-            let west = c - l;
-            let east = r - c;
+            let west = x.cell - x.left;
+            let east = x.right - x.cell;
+            let corners = Bits(1, 4, 32, 128);
             let diagonal = least_key(
                 heights,
-                Bits(1, 4, 32, 128),
-                c,
-                u - west,
-                u + east,
-                d - west,
-                d + east,
+                corners,
+                x.cell,
+                x.up - west,
+                x.up + east,
+                x.down - west,
+                x.down + east,
             );
-            steeper_key(heights[c], straight, diagonal)
+            steeper_key(heights[x.cell], straight, diagonal)
         }
     }
 }
 
-// The weight of cell c by these cells. All is read before the test.
-fn weight_of(
-    neighbours: Neighbours,
-    heights: &[u32],
-    marks: &[u8],
-    c: usize,
-    u: usize,
-    l: usize,
-    r: usize,
-    d: usize,
-) -> u8
-    requires { S.Crossed (length heights.now) c u l r d × (c < length marks.now) × ((i : ℕ) → at heights.now i ≤ 16000000) }
-    ensures { result ≡ S.weight_by neighbours heights.now marks.now c u l r d }
+// The weight of a cell. All is read before the test.
+#[tactic(auto, unfolding(crate::specs::Weights::weight_by))]
+fn weight_of(neighbours: Neighbours, heights: &[u32], marks: &[u8], x: Cross) -> u8
+    requires { S.Crossed (length heights.now) x.cell x.up x.left x.right x.down × (x.cell < length marks.now)
+        × ((i : ℕ) → at heights.now i ≤ 16000000) }
+    ensures { result ≡ S.weight_by neighbours heights.now marks.now x.cell x.up x.left x.right x.down }
 {
-    let mark = marks[c];
-    let k = (steepest_key(neighbours, heights, c, u, l, r, d) % 256) as u8;
+    let mark = marks[x.cell];
+    let k = (steepest_key(neighbours, heights, x) % 256) as u8;
     if is_outlet(mark) { 0 } else { k }
 }
 
@@ -152,39 +150,40 @@ fn row_weights(
         → out.old ≡ filled (S.weight neighbours w heights.now marks.now) b old
         → out.new ≡ filled (S.weight neighbours w heights.now marks.now) (b + w) old }
 {
-    out[b] = weight_of(neighbours, heights, marks, b, up, b, second(w, b), down);
-    let mut x = 1;
-    while x + 1 < w {
+    let cross = Cross {
+        cell: b,
+        up,
+        left: b,
+        right: second(w, b),
+        down,
+    };
+    out[b] = weight_of(neighbours, heights, marks, cross);
+    for x in 1..w - 1 {
         let c = b + x;
-        out[c] = weight_of(
-            neighbours,
-            heights,
-            marks,
-            c,
-            up + x,
-            c - 1,
-            c + 1,
-            down + x,
-        );
-        x += 1;
+        let cross = Cross {
+            cell: c,
+            up: up + x,
+            left: c - 1,
+            right: c + 1,
+            down: down + x,
+        };
+        out[c] = weight_of(neighbours, heights, marks, cross);
     }
     if 1 < w {
         let e = w - 1;
         let last = b + e;
-        out[last] = weight_of(
-            neighbours,
-            heights,
-            marks,
-            last,
-            up + e,
-            last - 1,
-            last,
-            down + e,
-        );
+        let cross = Cross {
+            cell: last,
+            up: up + e,
+            left: last - 1,
+            right: last,
+            down: down + e,
+        };
+        out[last] = weight_of(neighbours, heights, marks, cross);
     }
 }
 
-// The weights of all cells, row by row: in the loop the cells before b have theirs.
+// The weights of all cells, row by row: in the loop the cells of the rows before have theirs.
 pub fn weights(neighbours: Neighbours, w: usize, heights: &[u32], marks: &[u8], out: &mut [u8])
     requires { Tile w heights.now marks.now × (length heights.now ≤ length out.old) }
     ensures { out.new
@@ -193,12 +192,11 @@ pub fn weights(neighbours: Neighbours, w: usize, heights: &[u32], marks: &[u8], 
         (S.first_is (tile_land (rule_by neighbours) w heights.now marks.now)))
         (length heights.now) out.old }
 {
-    let mut b = 0;
-    while b < heights.len() {
+    for row in 0..heights.len() / w {
+        let b = row * w;
         let up = row_above(w, b);
         let down = row_below(w, heights.len(), b);
         row_weights(neighbours, w, heights, marks, b, up, down, out);
-        b += w;
     }
 }
 
@@ -242,9 +240,9 @@ pub fn first_receivers(neighbours: Neighbours, w: usize, weights: &[u8], n: usiz
     ensures { S.FirstsFound neighbours w n weights.now out.old out.new }
 {
     let down = w as u16;
-    let mut c = 0;
-    while c < n {
-        out[c] = led_to(neighbours, down, Cell(c as u16), weights[c]).0;
-        c += 1;
-    }
+    fill(
+        out,
+        n,
+        |c| led_to(neighbours, down, Cell(c as u16), weights[c]).0,
+    );
 }

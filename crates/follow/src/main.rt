@@ -9,35 +9,34 @@ ghost use Rattle.follow.specs.Follow.{asked, follow_text, has_list, longest_ques
 ghost use Rattle.text.specs.Writing.{Printed};
 ghost use Rattle.trace.specs.Answer.{answer_of};
 
-use inputs::read_full;
 use std::io;
 use std::io::{Read, Write};
-use trace::TraceAnswer;
+use trace::{TraceEnd, TraceRefusal};
 
 // The line of an answer, and how many bytes it takes: at most 25, for a cell of 16 bits and steps of 32.
-fn write_answer(text: &mut [u8], answer: TraceAnswer) -> usize
+fn write_answer(text: &mut [u8], answer: Result<TraceEnd, TraceRefusal>) -> usize
     requires { 25 ≤ length text.old }
     ensures { Printed (traced_text (answer_of answer)) text.old text.new result }
 {
     match answer {
-        TraceAnswer::Outlet(cell, steps) => text::write_pair(text, b"outlet ", cell.0, steps),
-        TraceAnswer::Stopped(cell, steps) => text::write_pair(text, b"stopped ", cell.0, steps),
-        TraceAnswer::BadList => text::write_refused(text, 2, 0),
-        TraceAnswer::BadCell => text::write_refused(text, 8, 0),
-        TraceAnswer::BadEntry(cell) => text::write_refused(text, 9, cell.0),
+        Ok(TraceEnd::Outlet(cell, steps)) => text::write_pair(text, b"outlet ", cell.0, steps),
+        Ok(TraceEnd::Stopped(cell, steps)) => text::write_pair(text, b"stopped ", cell.0, steps),
+        Err(TraceRefusal::BadList) => text::write_refused(text, 2, 0),
+        Err(TraceRefusal::BadCell) => text::write_refused(text, 8, 0),
+        Err(TraceRefusal::BadEntry(cell)) => text::write_refused(text, 9, cell.0),
     }
 }
 
 // The answer to a question of at most 4,096 receivers.
-fn answer_to(bytes: &[u8]) -> TraceAnswer
+fn answer_to(bytes: &[u8]) -> Result<TraceEnd, TraceRefusal>
     requires { (8 ≤ length bytes.now) × (length bytes.now ≤ longest_question) }
     ensures { answer_of result ≡ asked bytes.now }
 {
     let n = (bytes.len() - 8) / 2;
     let mut receivers = [0u16; 4096];
-    sections::read_section_u16(bytes, 8, n, &mut receivers);
-    let cell = sections::read_u32(bytes, 0);
-    let budget = sections::read_u32(bytes, 4);
+    sections::read_section(bytes, 8, n, &mut receivers);
+    let cell = sections::read::<u32>(bytes, 0);
+    let budget = sections::read::<u32>(bytes, 4);
     trace::trace(&receivers[..n], cell, budget)
 }
 
@@ -64,11 +63,7 @@ fn follow_text(bytes: &[u8], text: &mut [u8]) -> usize
 fn answer<R: Read, W: Write>(input: &mut R, output: &mut W) -> io::Result<()>
     ensures { OnOk result (IfSome (R.remaining input.old) (λ s. Appends (W.contents output.old) (W.contents output.new) (follow_text s))) }
 {
-    let mut bytes = [0u8; 8201];
-    let mut text = [0u8; 32];
-    let got = read_full(input, &mut bytes)?;
-    let len = follow_text(&bytes[..got], &mut text);
-    output.write_all(&text[..len])
+    inputs::answer::<R, W, _, 8201, 32>(input, output, follow_text)
 }
 
 fn main(rt: HostRuntime) -> io::Result<()> {

@@ -1,9 +1,10 @@
 -- The neighbours that a caller may ask for (document 02, W-203), and which of two ways down is steeper.
 -- Assumes nothing.
-use Rattle.std.specs.Prelude.{Bool, cond, List, ℕ, ◌%◌, ◌*◌, eqb, ltb}
+use Rattle.std.specs.Prelude.{Bool, cond, Err, List, Ok, Result, ◌≡◌, ℕ, ◌%◌, ◌*◌, eqb, ltb}
 use Rattle.grid.specs.Window.{around, sides}
 use Rattle.grid.specs.declared.Neighbours.{Neighbours}
 use Rattle.grid.specs.declared.Neighbours.TheVariants.{Eight, Four}
+use Rattle.grid.specs.declared.UnknownCount.{UnknownCount}
 
 -- their places: document 01's sides, or the corners too
 abbrev pub places_by : Neighbours → List ℕ
@@ -14,6 +15,13 @@ places_by Eight = around
 abbrev pub count_by : Neighbours → ℕ
 count_by Four = 4
 count_by Eight = 8
+
+-- what a count asks for: 4 and 8 for these neighbours, and no other count for any
+abbrev pub neighbours_for : ℕ → Result Neighbours UnknownCount
+neighbours_for n = cond (eqb n 4) (Ok Four) (cond (eqb n 8) (Ok Eight) (Err (record { 0 = n })))
+
+abbrev pub NeighboursFor : ℕ → Result Neighbours UnknownCount → Type 0
+NeighboursFor n r = r ≡ neighbours_for n
 
 -- the corners are the even places of a window: a drop to one is diagonal, and any other straight
 abbrev pub is_corner : ℕ → Bool

@@ -3,7 +3,7 @@
 -- Assumes nothing.
 use mathlib.Core.Bool.{Bool, false, true}
 use mathlib.Core.List.{List}
-use mathlib.Core.Path.{refl, ◌≡◌}
+use mathlib.Core.Path.{ap, refl, sym, ◌≡◌}
 use Prim.Native.Nat.{ℕ, ◌*◌, ◌+◌, ◌<◌, ◌≤◌}
 use native.Mathlib.Omega.{arith}
 use lib.Dec.{eqb, leb, ltb}
@@ -27,16 +27,25 @@ use Rattle.lists.specs.Find.{find, NoneBelow}
 use Rattle.lists.specs.Lists.{at}
 use Rattle.sections.specs.LittleEndian.{number_at}
 use Rattle.rules.specs.Ground.{cells_of, Ground, height_in_range, is_outlet}
-use Rattle.ground.specs.declared.Judged.{Judged}
-use Rattle.ground.specs.declared.Judged.TheVariants.{Accepted}
 use Rattle.ground.specs.declared.Refusal.{Refusal}
 use Rattle.ground.specs.declared.Refusal.TheVariants.{BadDistance, BadHeight, BadLength, BadMark, BadSize, NoOutlet, NoRoom}
+use Rattle.ground.specs.Judge.{Accepted, Judged}
+use Rattle.std.specs.Prelude.{Err, Ok}
 
 -- a test on the way to an acceptance held
 pub must_held : (t : Bool) (why : Refusal) (next : Judged) {w h : ℕ} → must t why next ≡ Accepted w h
     → (t ≡ true) × (next ≡ Accepted w h)
 must_held true why next e = (refl, e)
 must_held false why next e = absurd (let z : ◌≡◌ {A = ℕ} 0 1 = cc in omega arith)
+
+-- the width and the height that an acceptance gives back
+abbrev width_told : Judged → ℕ
+width_told (Ok size) = size.width
+width_told (Err why) = 0
+
+abbrev height_told : Judged → ℕ
+height_told (Ok size) = size.height
+height_told (Err why) = 0
 
 -- every test of the table held
 record Held (long right room : Bool) (g : Ground) : Type 0 where
@@ -74,8 +83,8 @@ module _ (long right room : Bool) (g : Ground) where
           marks_held = find-left (bad_mark g.marks) n (leb-true n m e6.0);
           outlet_held = ltb-true o n e7.0;
         },
-        (cc),
-        (cc),
+        sym (ap width_told last),
+        sym (ap height_told last),
       )
 
   accepted : Held long right room g → judge long right room g ≡ Accepted g.width g.height

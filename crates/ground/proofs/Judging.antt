@@ -3,13 +3,14 @@
 use mathlib.Core.Bool.{Bool, false, true}
 use mathlib.Core.List.{[]}
 use mathlib.Core.Logic.{inl, inr, ◌⊎◌}
-use mathlib.Core.Path.{refl, sym, ◌∙◌, ◌≡◌}
+use mathlib.Core.Path.{refl, subst, sym, ◌∙◌, ◌≡◌}
+use Rattle.std.specs.Prelude.{IsSome, MatchOption, None, Option, Some}
 use Prim.Native.Nat.{ℕ, ◌<◌, ◌≤◌}
 use native.Mathlib.Omega.{arith}
 use lib.Dec.{eqb, ltb}
 use lib.ListN.{length}
 use borrow.Author.Tests.{eq-eqb, le-leb, le-ltb, lt-leb, lt-ltb, ne_eqb}
-use Rattle.ground.specs.Judge.{bad_height, bad_mark, judge, judge_cells, judge_marks, judge_outlet, size_allowed}
+use Rattle.ground.specs.Judge.{Accepted, bad_height, bad_mark, judge, judge_cells, judge_marks, judge_outlet, Judged, Refused, size_allowed}
 use Rattle.ground.specs.Record.{ground_of_lists}
 use Rattle.kinds.specs.Kinds.{as_cell}
 use Rattle.lists.proofs.Greatest.{greatest_bounds, greatest_found, greatest-none}
@@ -18,9 +19,19 @@ use Rattle.lists.specs.Find.{find}
 use Rattle.lists.specs.Greatest.{greatest}
 use Rattle.lists.specs.Lists.{at}
 use Rattle.rules.specs.Ground.{cells_of, Ground, is_outlet}
-use Rattle.ground.specs.declared.Judged.{Judged}
-use Rattle.ground.specs.declared.Judged.TheVariants.{Accepted, Refused}
 use Rattle.ground.specs.declared.Refusal.TheVariants.{BadDistance, BadHeight, BadLength, BadMark, BadSize, NoOutlet, NoRoom}
+
+-- what a search for the first of n cells says of its answer
+abbrev pub Searched : (ℕ → Bool) → ℕ → Option ℕ → Type 0
+Searched p n r = MatchOption r (find p n ≡ n) (λ k. (k ≡ find p n) × (k < n))
+
+-- one that must find a cell finds it
+pub finds : (p : ℕ → Bool) (n : ℕ) (r : Option ℕ) → Searched p n r → find p n < n → IsSome r
+finds p n None e h = absurd (omega arith)
+finds p n (Some k) e h = refl
+
+pub found : (p : ℕ → Bool) (n : ℕ) {r : Option ℕ} {k : ℕ} → r ≡ Some k → Searched p n r → (k ≡ find p n) × (k < n)
+found p n e m = subst (Searched p n) e m
 
 -- of marks that are 0 or 1, the outlets are those above 0
 outlet_above : (mark : ℕ) → mark ≤ 1 → eqb mark 1 ≡ ltb 0 mark
@@ -32,12 +43,14 @@ outlet_above mark h = go (lt_or_ge 0 mark)
 
 -- the marks: the greatest decides, and `bad` is what the search for a bad one gave
 module _ (g : Ground) (full : length g.marks ≡ cells_of g) where
+  pub mark_found : 1 < greatest g.marks → find (bad_mark g.marks) (cells_of g) < cells_of g
+  mark_found h = greatest_found (bad_mark g.marks) g.marks 1 full (λ k m. refl) h
+
   pub marks_bad : {bad : ℕ} → bad ≡ find (bad_mark g.marks) (cells_of g) → 1 < greatest g.marks
       → Refused (BadMark (as_cell bad)) ≡ judge_marks g
   unfolding judge_marks
   marks_bad {bad} e h =
-      let found = greatest_found (bad_mark g.marks) g.marks 1 full (λ k m. refl) h in
-      rw (← e, lt-leb (cells_of g) bad (rw e found))
+      rw (← e, lt-leb (cells_of g) bad (rw e (mark_found h)))
 
   -- where it is at most 1, no mark is bad, and the outlets are the marks above 0
   none_bad : greatest g.marks ≤ 1 → find (bad_mark g.marks) (cells_of g) ≡ cells_of g

@@ -1,6 +1,4 @@
 pub mod Judging
-pub mod Counting
-pub mod Searching
 pub mod RecordCells
 pub mod SizedLists
 pub mod Acceptance

@@ -6,12 +6,12 @@ use mathlib.Core.Path.{ap, refl, sym, ◌∙◌, ◌≡◌}
 use Prim.Native.Nat.{ℕ, ◌≤◌}
 use native.Mathlib.Omega.{arith}
 use lib.Dec.{eqb}
+use Rattle.std.specs.Prelude.{Err, Ok}
 use Rattle.ground.specs.Judge.{number_of, place_of, refusal_number, refusal_place}
 use Rattle.kinds.specs.Kinds.{as_cell}
-use Rattle.ground.specs.declared.Judged.{Judged}
-use Rattle.ground.specs.declared.Judged.TheVariants.{Accepted, Refused}
 use Rattle.ground.specs.declared.Refusal.{Refusal}
 use Rattle.ground.specs.declared.Refusal.TheVariants.{BadDistance, BadHeight, BadLength, BadMark, BadSize, NoOutlet, NoRoom}
+use Rattle.ground.specs.Judge.{Judged, Accepted, Refused}
 
 -- the refusal that has a number and a place
 abbrev refusal_for : (number place : ℕ) → Refusal
@@ -49,7 +49,7 @@ number_tells a b e f =
 pub judged_tells : (a b : Judged) → number_of a ≡ number_of b → place_of a ≡ place_of b
     → (((w : ℕ) × (h : ℕ) × (a ≡ Accepted w h)) × ((w : ℕ) × (h : ℕ) × (b ≡ Accepted w h)))
     ⊎ ((why : Refusal) × (a ≡ Refused why) × (b ≡ Refused why))
-judged_tells (Accepted w h) (Accepted w' h') e f = inl ((w, h, refl), (w', h', refl))
-judged_tells (Accepted w h) (Refused b) e f = absurd (let s = (refusal_number_lem b).0 in omega arith)
-judged_tells (Refused a) (Accepted w h) e f = absurd (let s = (refusal_number_lem a).0 in omega arith)
-judged_tells (Refused a) (Refused b) e f = inr (b, ap Refused (number_tells a b e f), refl)
+judged_tells (Ok x) (Ok y) e f = inl ((x.width, x.height, refl), (y.width, y.height, refl))
+judged_tells (Ok x) (Err b) e f = absurd (let s = (refusal_number_lem b).0 in omega arith)
+judged_tells (Err a) (Ok y) e f = absurd (let s = (refusal_number_lem a).0 in omega arith)
+judged_tells (Err a) (Err b) e f = inr (b, ap Refused (number_tells a b e f), refl)

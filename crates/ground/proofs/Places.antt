@@ -16,10 +16,9 @@ use Rattle.ground.specs.Record.{ground_in, height_in, width_in}
 use Rattle.kinds.specs.Kinds.{as_cell}
 use Rattle.lists.specs.Find.{find}
 use Rattle.rules.specs.Ground.{cells_of, Ground, is_outlet}
-use Rattle.ground.specs.declared.Judged.{Judged}
-use Rattle.ground.specs.declared.Judged.TheVariants.{Accepted, Refused}
 use Rattle.ground.specs.declared.Refusal.{Refusal}
 use Rattle.ground.specs.declared.Refusal.TheVariants.{BadDistance, BadHeight, BadLength, BadMark, BadSize, NoOutlet, NoRoom}
+use Rattle.ground.specs.Judge.{Judged, Accepted, Refused}
 
 -- what holds of a test's refusal where it fails, and of what comes next where it holds, holds of the judgement by that test first
 must-has : (P : Judged → Type 0) (t : Bool) (why : Refusal) (next : Judged) → (t ≡ false → P (Refused why)) → (t ≡ true → P next)

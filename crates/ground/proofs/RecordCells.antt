@@ -11,8 +11,7 @@ use lib.Dec.{ltb}
 use lib.IntN.{ℤ}
 use lib.ListN.{length, length-map}
 use Rattle.ground.specs.Judge.{bad_height}
-use Rattle.ground.specs.Record.{lifts_in}
-use Rattle.ground.specs.Sought.{bad_in_bytes}
+use Rattle.ground.specs.Record.{bad_bits, lifts_in}
 use Rattle.heights.proofs.Heights.{range-bits}
 use Rattle.heights.proofs.HeightSections.{get_d_heights_at}
 use Rattle.heights.specs.Bits.{heights_at, lifted_bits, signed_of}
@@ -27,16 +26,15 @@ use Rattle.lists.specs.Lists.{at, Below, tab}
 use Rattle.sections.proofs.Numbers.{number_at-below}
 use Rattle.sections.specs.LittleEndian.{number_at, numbers_at}
 use Rattle.rules.specs.Ground.{height_in_range}
-use Rattle.ground.specs.declared.search.Sought.TheVariants.{Height}
 
 -- the code's test of a cell's bytes, and the search by it
-bad_in_record : (s : List ℕ) (n k : ℕ) → k < n → bad_in_bytes Height s k ≡ bad_height (heights_at s 0 n) k
+bad_in_record : (s : List ℕ) (n k : ℕ) → k < n → bad_bits s k ≡ bad_height (heights_at s 0 n) k
 bad_in_record s n k h =
     let e = get_d_heights_at s 0 n k h ∙ ap (λ (i : ℕ). signed_of (number_at 4 s i)) (zero-add (4 * k)) in
     ap (λ (z : ℤ). not (height_in_range z)) (sym e)
 
-pub bad_in_record_found : (s : List ℕ) (n : ℕ) → find (bad_in_bytes Height s) n ≡ find (bad_height (heights_at s 0 n)) n
-bad_in_record_found s n = find_same (bad_in_bytes Height s) (bad_height (heights_at s 0 n)) n (bad_in_record s n)
+pub bad_in_record_found : (s : List ℕ) (n : ℕ) → find (bad_bits s) n ≡ find (bad_height (heights_at s 0 n)) n
+bad_in_record_found s n = find_same (bad_bits s) (bad_height (heights_at s 0 n)) n (bad_in_record s n)
 
 -- a turn of the pass over the lifted heights
 pub greatest_lift_next : (s : List ℕ) (k : ℕ)

@@ -1,16 +1,27 @@
 -- Document 01, "Numbers given back": a ground is accepted, or refused with the first row of the table that holds.
 -- Assumes nothing.
-use Rattle.std.specs.Prelude.{Bool, false, not, true, ◌&&◌, List, ℕ, ◌*◌, ◌+◌, eqb, leb, ltb, pos, ℤ, get_or, length}
+use Rattle.std.specs.Prelude.{Bool, false, not, true, ◌&&◌, List, ℕ, ◌*◌, ◌+◌, eqb, leb, ltb, pos, ℤ, get_or, length, Result, Ok, Err}
 use Rattle.ground.specs.Record.{distances_right, ground_in, height_in, width_in}
 use Rattle.kinds.specs.Kinds.{as_cell}
 use Rattle.lists.specs.Find.{find}
 use Rattle.lists.specs.Lists.{at, overwrite}
 use Rattle.rules.specs.Ground.{cells_of, Ground, height_in_range, is_outlet}
-use Rattle.ground.specs.declared.Judged.{Judged}
-use Rattle.ground.specs.declared.Judged.TheVariants.{Accepted, Refused}
 use Rattle.ground.specs.declared.Refusal.{Refusal}
 use Rattle.ground.specs.declared.Refusal.TheVariants.{BadDistance, BadHeight, BadLength, BadMark, BadSize, NoOutlet, NoRoom}
+use Rattle.ground.specs.declared.Size.{Size}
 use Rattle.kinds.specs.declared.Cell.{Cell}
+
+-- the answer to a ground
+abbrev pub Judged : Type 0
+Judged = Result Size Refusal
+
+-- accepted, with the width and the height given back
+abbrev pub Accepted : ℕ → ℕ → Judged
+Accepted w h = Ok (record { width = w; height = h })
+
+-- or refused
+abbrev pub Refused : Refusal → Judged
+Refused why = Err why
 
 -- the number of a refusal
 abbrev pub refusal_number : Refusal → ℕ
@@ -34,12 +45,12 @@ refusal_place BadDistance = 0
 
 -- the number and the place that are given back; 0 and 0 where accepted
 abbrev pub number_of : Judged → ℕ
-number_of (Accepted w h) = 0
-number_of (Refused why) = refusal_number why
+number_of (Ok size) = 0
+number_of (Err why) = refusal_number why
 
 abbrev pub place_of : Judged → ℕ
-place_of (Accepted w h) = 0
-place_of (Refused why) = refusal_place why
+place_of (Ok size) = 0
+place_of (Err why) = refusal_place why
 
 -- refused unless the test holds
 abbrev pub must : Bool → Refusal → Judged → Judged
@@ -104,5 +115,5 @@ judge_record room s = must (leb 16 (length s)) BadLength (judge_sized room s (wi
 module _ {A : Type 0} where
   -- a lent list or record afterwards: `new` at its start where accepted, and as it was where refused
   abbrev pub leaves : Judged → List A → List A → List A
-  leaves (Accepted w h) new old = overwrite new old
-  leaves (Refused why) new old = old
+  leaves (Ok size) new old = overwrite new old
+  leaves (Err why) new old = old

@@ -1,7 +1,6 @@
 pub mod Record
 pub mod Rooms
 pub mod Judge
-pub mod Sought
 pub mod Good
 pub mod Accepted
 pub mod Samples

@@ -1,11 +1,11 @@
 -- Document 01, "Records": the bytes of a ground record as one definition, and the ground that a record says.
 -- Assumes nothing.
-use Rattle.std.specs.Prelude.{Bool, ◌&&◌, List, map, ◌++◌, ℕ, ◌*◌, ◌+◌, eqb, ℤ}
-use Rattle.heights.specs.Bits.{heights_at, height_section, lifted_bits}
+use Rattle.std.specs.Prelude.{Bool, not, ◌&&◌, List, map, ◌++◌, ℕ, ◌*◌, ◌+◌, eqb, ℤ}
+use Rattle.heights.specs.Bits.{heights_at, height_section, lifted_bits, signed_of}
 use Rattle.lists.specs.Lists.{stretch}
 use Rattle.sections.specs.LittleEndian.{bytes_of, number_at, numbers_at, section_of}
 use Rattle.sections.specs.Trailer.{height_named, trailer_start, width_named}
-use Rattle.rules.specs.Ground.{Ground}
+use Rattle.rules.specs.Ground.{Ground, height_in_range}
 
 -- the trailer: width (2), height (2), and three distances (4 each) back from its first byte to the first byte of heights, marks and
 -- water: 7N, 3N and 2N
@@ -36,6 +36,10 @@ distances_right s n =
 -- the heights of its first n cells, lifted; bits that are no height's come out above 16,000,000
 abbrev pub lifts_in : List ℕ → ℕ → List ℕ
 lifts_in s n = map lifted_bits (numbers_at 4 s 0 n)
+
+-- and the bits of its height of cell k are out of range
+abbrev pub bad_bits : List ℕ → ℕ → Bool
+bad_bits s k = not (height_in_range (signed_of (number_at 4 s (4 * k))))
 
 -- the ground of lists
 abbrev pub ground_of_lists : ℕ → ℕ → List ℤ → List ℕ → List ℕ → Ground

@@ -1,14 +1,13 @@
 -- Document 01, "Sample tiles": the record of F both ways, the limits, and the order of refusals, in one table, proved by one theorem.
 -- Assumes nothing.
 use Rattle.std.specs.Prelude.{[], List, map, ◌++◌, ◌∷◌, refl, ◌≡◌, ℕ, ◌-◌, negsuc, pos, ℤ, length, replicate}
-use Rattle.ground.specs.Judge.{judge, judge_cells, judge_lists, judge_marks, judge_outlet, judge_record, number_of, place_of}
+use Rattle.ground.specs.Judge.{Accepted, judge, judge_cells, judge_lists, judge_marks, judge_outlet, judge_record, Judged, number_of, place_of}
+use Rattle.ground.specs.Judge.{Refused}
 use Rattle.ground.specs.Record.{ground_of_lists, ground_of_record, record_of, trailer}
 use Rattle.ground.specs.Rooms.{room_for}
 use Rattle.kinds.specs.Kinds.{as_cell}
 use Rattle.rules.specs.Samples.{ground_f}
 use Rattle.rules.specs.Ground.{Ground}
-use Rattle.ground.specs.declared.Judged.{Judged}
-use Rattle.ground.specs.declared.Judged.TheVariants.{Accepted, Refused}
 use Rattle.ground.specs.declared.Refusal.TheVariants.{BadDistance, BadHeight, BadLength, BadMark, BadSize, NoOutlet, NoRoom}
 
 pub data Sample : Type 0 where

@@ -1,17 +1,10 @@
 // What is judged without a look at the cells: 1, 2, 7 and 3 of document 01's table.
-ghost use Rattle.std.specs.Prelude.{◌≡◌, ◌+◌, ◌<◌, ◌≤◌, length};
+ghost use Rattle.std.specs.Prelude.{◌≡◌, ◌≤◌, length};
 ghost use Rattle.ground.specs.Judge.{lists_full, size_allowed};
 ghost use Rattle.ground.specs.Record.{distances_right};
 ghost use Rattle.ground.specs.Rooms.{room_for};
 
 use crate::Room;
-
-// A small number as a count.
-pub fn wide(x: u16) -> usize
-    ensures { (result ≡ x) × (result < 65536) }
-{
-    x as usize
-}
 
 // Width and height are 1 to 64.
 pub fn size_allowed(width: u16, height: u16) -> bool
@@ -26,9 +19,9 @@ pub fn distances_right(bytes: &[u8], n: usize) -> bool
     ensures { result ≡ distances_right bytes.now n }
 {
     let from = bytes.len() - 16;
-    sections::read_u32(bytes, from + 4) as usize == 7 * n
-        && (sections::read_u32(bytes, from + 8) as usize == 3 * n
-            && sections::read_u32(bytes, from + 12) as usize == 2 * n)
+    sections::read::<u32>(bytes, from + 4) as usize == 7 * n
+        && (sections::read::<u32>(bytes, from + 8) as usize == 3 * n
+            && sections::read::<u32>(bytes, from + 12) as usize == 2 * n)
 }
 
 // Each of the three lists has n entries.
@@ -43,5 +36,5 @@ pub fn has_room(room: Room, n: usize) -> bool
     requires { n ≤ 4096 }
     ensures { result ≡ room_for room.each room.fixed room.len n }
 {
-    wide(room.each) * n + wide(room.fixed) <= room.len
+    usize::from(room.each) * n + usize::from(room.fixed) <= room.len
 }

@@ -1,70 +1,54 @@
-// Searches by rows and columns that stop at the first cell that they look for (document 01, "Numbers given back"): each gives that
-// cell, or the number of cells where there is none. Heights of a record and marks are both bytes; heights of lists are numbers.
-ghost use Rattle.std.specs.Prelude.{◌≡◌, ◌*◌, ◌+◌, ◌<◌, ◌≤◌, length};
+// A search by rows and columns for the first cell that is bad (document 01, "Numbers given back"), and the tests that it is made with:
+// heights of a record and marks are both bytes; heights of lists are numbers.
+ghost use Rattle.std.specs.Prelude.{◌≡◌, ◌*◌, ◌+◌, ◌<◌, ◌≤◌, Bool, length, MatchOption, ℕ};
 ghost use Rattle.lists.specs.Find.{find};
-ghost use Rattle.ground.specs.Judge.{bad_height};
-ghost use Rattle.ground.specs.Sought.{bad_in_bytes, bytes_each};
+ghost use Rattle.ground.specs.Judge.{bad_height, bad_mark};
+ghost use Rattle.ground.specs.Record.{bad_bits};
 
-// What is looked for in bytes.
-#[derive(Clone, Copy)]
-pub enum Sought {
-    // A height out of range; each cell has four bytes.
-    Height,
-    // A mark that is neither 0 nor 1; each cell has one byte.
-    Mark,
+use crate::Size;
+
+// The first cell of a tile that the test finds bad: the loops by rows and columns are left by their label as soon as it is found.
+pub fn first<F: Fn(usize) -> bool>(size: Size, is_bad: F) -> Option<usize>
+    requires size { (size.width ≤ 64) × (size.height ≤ 64) }
+    requires callable { (k : ℕ) → k < size.height * size.width → F.pre is_bad k }
+    ensures { (p : ℕ → Bool) → ((k : ℕ) → k < size.height * size.width → (y : Bool) → F.post is_bad k y → y ≡ p k)
+        → let n = size.height * size.width in MatchOption result (find p n ≡ n) (λ k. (k ≡ find p n) × (k < n)) }
+{
+    let width = usize::from(size.width);
+    let height = usize::from(size.height);
+    let mut place = None;
+    'search: for row in 0..height {
+        for col in 0..width {
+            let cell = row * width + col;
+            if is_bad(cell) {
+                place = Some(cell);
+                break 'search;
+            }
+        }
+    }
+    place
 }
 
-// In the bytes of this cell stands a bad one.
-fn is_bad_in_bytes(bytes: &[u8], sought: Sought, cell: usize) -> bool
-    requires { bytes_each sought * (cell + 1) ≤ length bytes.now }
-    ensures { result ≡ bad_in_bytes sought bytes.now cell }
+// The bits of a record's height of this cell are out of range; each cell has four bytes.
+pub fn are_bad_bits(bytes: &[u8], cell: usize) -> bool
+    requires { 4 * (cell + 1) ≤ length bytes.now }
+    ensures { result ≡ bad_bits bytes.now cell }
 {
-    match sought {
-        Sought::Height => !heights::bits_in_range(sections::read_u32(bytes, 4 * cell)),
-        Sought::Mark => bytes[cell] > 1,
-    }
+    !heights::bits_in_range(sections::read::<u32>(bytes, 4 * cell))
 }
 
 // The height in the entry of this cell is out of range.
-fn is_bad_in_list(list: &[i32], cell: usize) -> bool
+pub fn is_bad_height(list: &[i32], cell: usize) -> bool
     requires { cell < length list.now }
     ensures { result ≡ bad_height list.now cell }
 {
     !heights::in_range(list[cell])
 }
 
-// The first bad cell of a record's heights, or of marks.
-pub fn first_bad_in_bytes(bytes: &[u8], sought: Sought, width: usize, height: usize) -> usize
-    requires { (width ≤ 64) × (height ≤ 64) × (bytes_each sought * (height * width) ≤ length bytes.now) }
-    ensures { (result ≡ find (bad_in_bytes sought bytes.now) (height * width)) × (result ≤ height * width) }
+// The mark of this cell is neither 0 nor 1.
+pub fn is_bad_mark(marks: &[u8], cell: usize) -> bool
+    requires { cell < length marks.now }
+    ensures { result ≡ bad_mark marks.now cell }
 {
-    let mut place = height * width;
-    'search: for row in 0..height {
-        for col in 0..width {
-            let cell = row * width + col;
-            if is_bad_in_bytes(bytes, sought, cell) {
-                place = cell;
-                break 'search;
-            }
-        }
-    }
-    place
-}
-
-// The first bad height of a list.
-pub fn first_bad_in_list(list: &[i32], width: usize, height: usize) -> usize
-    requires { (width ≤ 64) × (height ≤ 64) × (height * width ≤ length list.now) }
-    ensures { (result ≡ find (bad_height list.now) (height * width)) × (result ≤ height * width) }
-{
-    let mut place = height * width;
-    'search: for row in 0..height {
-        for col in 0..width {
-            let cell = row * width + col;
-            if is_bad_in_list(list, cell) {
-                place = cell;
-                break 'search;
-            }
-        }
-    }
-    place
+    marks[cell] > 1
 }

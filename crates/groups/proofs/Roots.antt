@@ -1,21 +1,21 @@
 -- Roots: following the entries ends at one, and what setting an entry does to all roots.
 -- Assumes nothing.
-use mathlib.Core.List.{[], List, ◌++◌, ◌∷◌}
+use mathlib.Core.List.{append-nil, List}
 use mathlib.Core.Logic.{inl, inr, ◌⊎◌}
 use mathlib.Core.Path.{ap, refl, subst, sym, ◌∙◌, ◌≡◌}
-use Prim.Native.Nat.{suc, zero, ℕ, ◌+◌, ◌<◌, ◌≤◌}
-use native.Mathlib.Nat.{eq-or-lt_of_le, le_refl, le_trans, zero-add}
+use Prim.Native.Nat.{suc, zero, ℕ, ◌<◌, ◌≤◌}
+use native.Mathlib.Nat.{eq-or-lt_of_le, le_refl, le_trans}
 use native.Mathlib.Omega.{arith}
 use lib.Dec.{eqb}
-use lib.ListN.{drop, length, get_or-eq_default, set}
-use lib.Seq.{get_or-set_other, get_or-set_same}
+use lib.ListN.{length, get_or-eq_default, set}
+use lib.Seq.{drop-length, get_or-set_other, get_or-set_same}
 use borrow.Author.Tests.{eqb-false, eqb-true}
 use Rattle.groups.specs.Groups.{Down, root_of}
-use Rattle.lists.proofs.Overwrite.{overwrite_put}
-use Rattle.lists.proofs.Range.{range_length, range_split, upto-at}
+use Rattle.lists.proofs.Range.{range_length, upto-at}
 use Rattle.lists.proofs.Repeat.{repeat_fixed}
 use Rattle.lists.proofs.Tests.{is, isnt, Known, known, lt_or_ge}
-use Rattle.lists.specs.Lists.{at, repeat, upto}
+use Rattle.std.proofs.lemmas.List.{map-id}
+use Rattle.lists.specs.Lists.{at, filled, repeat, upto}
 
 module _ (g : List ℕ) (d : Down g) where
   -- b or more steps from b end at one place, which names itself
@@ -113,12 +113,10 @@ halved g d i h =
     (λ x n. root_step g d x)
     (root_step g d (at g i) ∙ root_step g d i)
 
--- each basin alone: one more
-pub upto_next : (old : List ℕ) (n : ℕ) → n < length old → set (upto n ++ drop n old) n n ≡ upto (n + 1) ++ drop (n + 1) old
-upto_next old n h =
-    overwrite_put (upto n) old n n (range_length n 0) h
-    ∙ ap (λ (m : ℕ). (upto n ++ (m ∷ [])) ++ drop (n + 1) old) (sym (zero-add n))
-    ∙ ap (λ (l : List ℕ). l ++ drop (n + 1) old) (sym (range_split 0 n 1))
+-- each basin alone
+pub alone_filled : (g : List ℕ) → filled (λ b. b) (length g) g ≡ upto (length g)
+unfolding filled
+alone_filled g = rw (map-id (upto (length g)), range_length (length g) 0, drop-length) (append-nil (upto (length g)))
 
 -- no entry is above its place, and each basin is its own root
 pub alone_down : (n : ℕ) → Down (upto n)

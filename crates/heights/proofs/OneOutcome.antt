@@ -1,8 +1,7 @@
 -- Any two outcomes that a contract allows are equal. The contracts are those in src/.
 -- Assumes nothing.
-use Rattle.std.proofs.Common.{refl}
 use Rattle.lists.proofs.Determined.{one_answer}
-use Rattle.lists.specs.Contract.{OneAnswer, OneOutcome}
+use Rattle.lists.specs.Contract.{OneAnswer}
 use Rattle.heights.proofs.in_range.Kinds as in-range-kinds
 use Rattle.heights.proofs.in_range.Reads as in-range
 use Rattle.heights.proofs.bits_in_range.Kinds as bits-in-range-kinds
@@ -15,10 +14,6 @@ use Rattle.heights.proofs.lift.Kinds as lift-kinds
 use Rattle.heights.proofs.lift.Reads as lift
 use Rattle.heights.proofs.drop_lift.Kinds as drop-lift-kinds
 use Rattle.heights.proofs.drop_lift.Reads as drop-lift
-use Rattle.heights.proofs.write_section_heights.Kinds as write-section-heights-kinds
-use Rattle.heights.proofs.write_section_heights.Reads as write-section-heights
-use Rattle.heights.proofs.read_section_heights.Kinds as read-section-heights-kinds
-use Rattle.heights.proofs.read_section_heights.Reads as read-section-heights
 
 pub in_range-one : OneAnswer 0 in-range-kinds.ps in-range-kinds.r in-range.Asked in-range.Learnt
 in_range-one κs a p r r' e e' x y = one_answer x y
@@ -37,12 +32,3 @@ lift_one κs a p r r' e e' x y = one_answer x.0 y.0
 
 pub drop_lift_one : OneAnswer 0 drop-lift-kinds.ps drop-lift-kinds.r drop-lift.Asked drop-lift.Learnt
 drop_lift_one κs a p r r' e e' x y = one_answer x.0 y.0
-
-pub write_section_heights-one : OneOutcome 2 write-section-heights-kinds.ps write-section-heights-kinds.r
-    write-section-heights.Asked write-section-heights.Learnt
-    (λ κs a r e. e.0.now)
-write_section_heights-one κs a p r r' e e' x y = (refl, one_answer x y)
-
-pub read_section_heights-one : OneOutcome 2 read-section-heights-kinds.ps read-section-heights-kinds.r read-section-heights.Asked read-section-heights.Learnt
-    (λ κs a r e. e.1.1.1.0.now)
-read_section_heights-one κs a p r r' e e' x y = (refl, one_answer x y)

@@ -9,6 +9,7 @@ use lib.ListN.{length, length-append}
 use Rattle.heights.proofs.Heights.{dropped_bits-dropped}
 use Rattle.heights.specs.Bits.{bits_of, dropped_bits}
 use Rattle.lake_bytes.specs.LakeBytes.{lake_bytes, lakes_bytes}
+use Rattle.lake_list.specs.declared.Row.{Row}
 use Rattle.lake_rows.specs.Reading.{count_in, least_in, level_in, read_lake, read_lakes, volume_in}
 use Rattle.lake_rules.specs.Lakes.{Lake}
 use Rattle.lists.proofs.Flat.{flat_append}
@@ -32,7 +33,7 @@ length-lakes_bytes (x ∷ xs) =
     length-append (lake_bytes x) (flat lake_bytes xs) ∙ omega arith
 
 -- a lake's four numbers, written one after the other
-pub lake-written : {a b c d : List ℕ} (rows : List ℕ) (i from : ℕ) (old : List ℕ) → from + 16 ≤ length old → level_in rows i ≤ 16000000
+pub lake-written : {a b c d : List ℕ} (rows : List Row) (i from : ℕ) (old : List ℕ) → from + 16 ≤ length old → level_in rows i ≤ 16000000
     → a ≡ stored from (bytes_of 4 (dropped_bits (level_in rows i))) old
     → b ≡ stored (from + 4) (bytes_of 2 (count_in rows i)) a
     → c ≡ stored (from + 6) (bytes_of 2 (least_in rows i)) b
@@ -50,7 +51,7 @@ lake-written {a} rows i from old h low e f g k =
     stored_on ((p ++ q) ++ r) s old from (from + 8) refl (omega arith) three k
 
 -- one lake more
-pub lakes-next : {l m : List ℕ} (rows : List ℕ) (i : ℕ) (old : List ℕ) → l ≡ overwrite (lakes_bytes (read_lakes rows i)) old
+pub lakes-next : {l m : List ℕ} (rows : List Row) (i : ℕ) (old : List ℕ) → l ≡ overwrite (lakes_bytes (read_lakes rows i)) old
     → m ≡ stored (16 * i) (lake_bytes (read_lake rows i)) l → m ≡ overwrite (lakes_bytes (read_lakes rows (i + 1))) old
 unfolding lakes_bytes
 lakes-next rows i old e f =

@@ -7,43 +7,76 @@ ghost use Rattle.ground.specs.Good.{Good};
 ghost use Rattle.ground.specs.Record.{ground_of_lists};
 ghost use Rattle.lake_calls.specs.LakeCall.{judge_found, lake_lists, lakes_left, lakes_number, lakes_onto, LakesOutcome, lakes_place};
 ghost use Rattle.lake_calls.specs.LakeCall.{shortest_lake_list};
+ghost use Rattle.lake_calls.specs.declared.LakesRefusal.TheVariants.{Ground, TooDeep as Deep};
 ghost use Rattle.lake_stages.specs.ReadFound.{ReadFound};
 ghost use Rattle.lake_list.specs.Rows.{found_of};
 ghost use Rattle.lake_rules.specs.Fits.{LakesFit};
 ghost use Rattle.lake_rules.specs.Lakes.{Lake};
-ghost use Rattle.lake_rows.specs.Reading.{count_in, least_in, level_in, read_lakes, volume_in};
+ghost use Rattle.lake_rows.specs.Reading.{level_in, read_lakes};
 ghost use Rattle.lake_stages.specs.LakesOn.{lakes_on, too_deep_on};
 ghost use Rattle.lists.specs.Allowed.{Allowed};
-ghost use Rattle.lists.specs.Lists.{filled};
 ghost use Rattle.rules.specs.Ground.{dropped};
 
-use ground::{Judged, Refusal, Room};
+use ground::{Refusal, Room};
 use kinds::Cell;
-use lake_list::Found;
+use lake_list::{NO_ROW, Row, TooDeep};
 use lake_rows::{count_in, least_in, level_in, volume_in};
 use lake_stages::tile_lakes;
-use lists::least;
 use network::lift_heights;
+use std::error::Error;
+use std::fmt;
 
-// The answer to a call that lists lakes; `lakes_number` and `lakes_place` of specs/LakeCall.antt give the numbers.
-#[derive(Clone, Copy)]
-pub enum LakesAnswer {
-    // So many lakes are listed.
-    Listed(u16),
+// Why no lakes are listed; `lakes_number` and `lakes_place` of specs/LakeCall.antt give the numbers.
+#[derive(Clone, Copy, Debug, PartialEq, Eq)]
+pub enum LakesRefusal {
     // The ground is refused, or there is no room for its lakes.
-    Refused(Refusal),
+    Ground(Refusal),
     // 10: an outermost lake is of depth above 64; the least cell of the first such lake.
     TooDeep(Cell),
 }
+
+impl fmt::Display for LakesRefusal {
+    fn fmt<W: fmt::Write>(&self, f: &mut fmt::Formatter<W>) -> fmt::Result {
+        match self {
+            LakesRefusal::Ground(why) => write!(f, "{why}"),
+            LakesRefusal::TooDeep(cell) => write!(
+                f,
+                "the lake of cell {} is deeper than 64",
+                cell.0
+            ),
+        }
+    }
+}
+
+impl Error for LakesRefusal {}
+
+impl From<Refusal> for LakesRefusal {
+    ghost from_gives = { λ why e. e ≡ Ground why };
+
+    fn from(why: Refusal) -> LakesRefusal {
+        LakesRefusal::Ground(why)
+    }
+}
+
+impl From<TooDeep> for LakesRefusal {
+    ghost from_gives = { λ lake e. e ≡ Deep lake.0 };
+
+    fn from(lake: TooDeep) -> LakesRefusal {
+        LakesRefusal::TooDeep(lake.0)
+    }
+}
+
+// The answer to a call that lists lakes: how many are listed, or why none.
+pub type LakesAnswer = Result<u16, LakesRefusal>;
 
 // The number given back for an answer: 0 where the lakes are listed.
 pub fn lakes_number(answer: LakesAnswer) -> u16
     ensures { result ≡ lakes_number answer }
 {
     match answer {
-        LakesAnswer::Listed(_) => 0,
-        LakesAnswer::Refused(why) => ground::number(Judged::Refused(why)),
-        LakesAnswer::TooDeep(_) => 10,
+        Ok(_) => 0,
+        Err(LakesRefusal::Ground(why)) => ground::number(Err(why)),
+        Err(LakesRefusal::TooDeep(_)) => 10,
     }
 }
 
@@ -52,101 +85,65 @@ pub fn lakes_place(answer: LakesAnswer) -> u16
     ensures { result ≡ lakes_place answer }
 {
     match answer {
-        LakesAnswer::Listed(_) => 0,
-        LakesAnswer::Refused(why) => ground::place(Judged::Refused(why)),
-        LakesAnswer::TooDeep(cell) => cell.0,
+        Ok(_) => 0,
+        Err(LakesRefusal::Ground(why)) => ground::place(Err(why)),
+        Err(LakesRefusal::TooDeep(cell)) => cell.0,
     }
 }
 
 // 10, and then 3: the answer to what was found, with room for so many lakes.
-pub fn judge_found(found: Found, room: usize) -> LakesAnswer
+pub fn judge_found(found: Result<u16, TooDeep>, room: usize) -> LakesAnswer
     ensures { result ≡ judge_found found room }
 {
-    match found {
-        Found::TooDeep(cell) => LakesAnswer::TooDeep(cell),
-        Found::Lakes(count) => {
-            if count as usize <= room {
-                LakesAnswer::Listed(count)
-            } else {
-                LakesAnswer::Refused(Refusal::NoRoom)
-            }
-        }
+    let count = found?;
+    if usize::from(count) <= room {
+        Ok(count)
+    } else {
+        Err(LakesRefusal::Ground(Refusal::NoRoom))
     }
 }
 
-// The levels of the first n lakes, dropped.
-fn write_levels(n: usize, rows: &[u64], out: &mut [i32])
-    requires { (2 * n ≤ length rows.now) × (n ≤ length out.old) × ((i : ℕ) → i < n → level_in rows.now i ≤ 16000000) }
-    ensures { out.new ≡ filled (λ (i : ℕ). dropped (level_in rows.now i)) n out.old }
+// The level of row i, dropped.
+fn dropped_level(rows: &[Row], i: usize) -> i32
+    requires { (i < length rows.now) × (level_in rows.now i ≤ 16000000) }
+    ensures { result ≡ dropped (level_in rows.now i) }
 {
-    for i in 0..n {
-        out[i] = heights::drop_lift(level_in(rows, i));
-    }
-}
-
-// Their numbers of cells.
-fn write_counts(n: usize, rows: &[u64], out: &mut [u16])
-    requires { (2 * n ≤ length rows.now) × (n ≤ length out.old) }
-    ensures { out.new ≡ filled (count_in rows.now) n out.old }
-{
-    for i in 0..n {
-        out[i] = count_in(rows, i);
-    }
-}
-
-// Their volumes.
-fn write_volumes(n: usize, rows: &[u64], out: &mut [u64])
-    requires { (2 * n ≤ length rows.now) × (n ≤ length out.old) }
-    ensures { out.new ≡ filled (volume_in rows.now) n out.old }
-{
-    for i in 0..n {
-        out[i] = volume_in(rows, i);
-    }
-}
-
-// Their least cells.
-fn write_leasts(n: usize, rows: &[u64], out: &mut [u16])
-    requires { (2 * n ≤ length rows.now) × (n ≤ length out.old) }
-    ensures { out.new ≡ filled (least_in rows.now) n out.old }
-{
-    for i in 0..n {
-        out[i] = least_in(rows, i);
-    }
+    heights::drop_lift(level_in(rows, i))
 }
 
 // The lakes of the first n rows, at the start of the four lists.
 fn write_lists(
     n: usize,
-    rows: &[u64],
+    rows: &[Row],
     levels: &mut [i32],
     counts: &mut [u16],
     volumes: &mut [u64],
     leasts: &mut [u16],
 )
-    requires n_in_bounds { (2 * n ≤ length rows.now) × LakesFit 4096 (read_lakes rows.now n) }
+    requires n_in_bounds { (n ≤ length rows.now) × LakesFit 4096 (read_lakes rows.now n) }
     requires n_in_bounds_2 { (n ≤ length levels.old) × (n ≤ length counts.old) × (n ≤ length volumes.old) × (n ≤ length leasts.old) }
     ensures { let before = lake_lists levels.old counts.old volumes.old leasts.old in
         let after = lake_lists levels.new counts.new volumes.new leasts.new in
         after ≡ lakes_onto (read_lakes rows.now n) before }
 {
-    write_levels(n, rows, levels);
-    write_counts(n, rows, counts);
-    write_volumes(n, rows, volumes);
-    write_leasts(n, rows, leasts);
+    lists::fill(levels, n, |i| dropped_level(rows, i));
+    lists::fill(counts, n, |i| count_in(rows, i));
+    lists::fill(volumes, n, |i| volume_in(rows, i));
+    lists::fill(leasts, n, |i| least_in(rows, i));
 }
 
 // The length of the shortest of the four lent lists.
 fn shortest_length(levels: &[i32], counts: &[u16], volumes: &[u64], leasts: &[u16]) -> usize
     ensures { result ≡ shortest_lake_list (lake_lists levels.now counts.now volumes.now leasts.now) }
 {
-    let cells = least(volumes.len(), leasts.len());
-    least(levels.len(), least(counts.len(), cells))
+    let cells = volumes.len().min(leasts.len());
+    levels.len().min(counts.len().min(cells))
 }
 
 // The answer to what was found; the lakes are written where that lists them.
 fn write_found(
-    found: Found,
-    rows: &[u64],
+    found: Result<u16, TooDeep>,
+    rows: &[Row],
     levels: &mut [i32],
     counts: &mut [u16],
     volumes: &mut [u64],
@@ -159,15 +156,9 @@ fn write_found(
         → Allowed (judge_found (found_of deep ls) (shortest_lake_list before)) (λ r. lakes_left r ls before) result after }
 {
     let room = shortest_length(levels, counts, volumes, leasts);
-    let answer = judge_found(found, room);
-    match answer {
-        LakesAnswer::Listed(n) => {
-            write_lists(n as usize, rows, levels, counts, volumes, leasts);
-            LakesAnswer::Listed(n)
-        }
-        LakesAnswer::Refused(why) => LakesAnswer::Refused(why),
-        LakesAnswer::TooDeep(cell) => LakesAnswer::TooDeep(cell),
-    }
+    let count = judge_found(found, room)?;
+    write_lists(count as usize, rows, levels, counts, volumes, leasts);
+    Ok(count)
 }
 
 // The lakes of an accepted ground. Work space: 80 KB, and that of finding lakes.
@@ -192,7 +183,7 @@ fn list_accepted(
 {
     let n = ground::cells(width, height);
     let w = width as usize;
-    let mut rows = [0u64; 8192];
+    let mut rows = [NO_ROW; 4096];
     let mut lifted = [0u32; 4096];
     lift_heights(heights, &mut lifted);
     let found = tile_lakes(w, &lifted[..n], marks, &mut rows);
@@ -223,13 +214,8 @@ pub fn lakes_of_lists(
         fixed: 0,
         len: 0,
     };
-    let judged = ground::judge_lists(width, height, heights, marks, water, any);
-    match judged {
-        Judged::Refused(why) => LakesAnswer::Refused(why),
-        Judged::Accepted(_, _) => {
-            list_accepted(
-                width, height, heights, marks, levels, counts, volumes, leasts,
-            )
-        }
-    }
+    ground::judge_lists(width, height, heights, marks, water, any)?;
+    list_accepted(
+        width, height, heights, marks, levels, counts, volumes, leasts,
+    )
 }

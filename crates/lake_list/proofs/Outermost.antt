@@ -1,23 +1,23 @@
 -- The walk over the outermost lakes: each has the level of its first cell, and what is found is told by the first that is too deep, or by
 -- all of them.
 -- Assumes nothing.
-use mathlib.Core.List.{[], List, ◌++◌, ◌∷◌}
+use mathlib.Core.List.{[], List, map, ◌++◌, ◌∷◌}
 use mathlib.Core.Path.{ap, subst, sym, ◌∙◌, ◌≡◌}
-use Prim.Native.Nat.{ℕ, ◌*◌, ◌+◌, ◌-◌, ◌<◌, ◌≤◌}
+use Prim.Native.Nat.{ℕ, ◌+◌, ◌-◌, ◌<◌, ◌≤◌}
 use native.Mathlib.Nat.{add-zero}
 use native.Mathlib.Omega.{arith}
-use lib.ListN.{drop, length, length-append, length-drop, take}
+use lib.ListN.{drop, length, length-append, length-drop, length-map, take}
 use lib.Seq.{get_or-drop, get_or-take, sets, sets-eq, take_at}
 use borrow.Author.Tests.{le-ltb, lt-ltb}
-use Rattle.kinds.specs.Kinds.{as_cell}
 use Rattle.lake_list.proofs.Splitting.{on_tile_fact}
-use Rattle.lake_list.proofs.Storing.{rows-length}
 use Rattle.lake_list.proofs.Turns.{turn_lake}
 use Rattle.lake_list.proofs.Walking.{deep_at, Turn, walk_all, Walked}
 use Rattle.lake_list.specs.Listing.{NotedLake, NotedLakes, Listed, Room}
 use Rattle.lake_list.specs.Outermost.{FoundAmong, is_deep, lakes_in}
-use Rattle.lake_list.specs.Rows.{found_of, row_of}
-use Rattle.lake_list.specs.declared.Found.TheVariants.{Lakes, TooDeep}
+use Rattle.lake_list.specs.Rows.{found_of, row_of, too_deep_at}
+use Rattle.std.specs.Prelude.{Err, Ok, Option, Result}
+use Rattle.lake_list.specs.declared.Row.{Row}
+use Rattle.lake_list.specs.declared.TooDeep.{TooDeep}
 use Rattle.lake_rules.specs.Lakes.{depth, Lake, lakes_of, level_of}
 use Rattle.lists.proofs.At.{at_member}
 use Rattle.lists.proofs.Flat.{flat_append}
@@ -26,14 +26,15 @@ use Rattle.lists.specs.Lists.{at, flat, keep, ◌∈◌}
 use Rattle.rules.specs.Land.{Land}
 
 -- rows stored at the start of a list
-rows-first : {new : List ℕ} (old : List ℕ) (ls : List Lake) → new ≡ sets old (2 * 0) (flat row_of ls) → 2 * length ls ≤ length old
-    → take (2 * length ls) new ≡ flat row_of ls
+rows-first : {new : List Row} (old : List Row) (ls : List Lake) → new ≡ sets old 0 (map row_of ls) → length ls ≤ length old
+    → take (length ls) new ≡ map row_of ls
 rows-first {new} old ls e h =
-    ap (take (2 * length ls)) (e ∙ sets-eq (flat row_of ls) old 0 (omega (arith, rows-length ls)))
-    ∙ take_at (flat row_of ls) (drop (0 + length (flat row_of ls)) old) (2 * length ls) (rows-length ls)
+    let n : length (map row_of ls) ≡ length ls = length-map ls row_of in
+    ap (take (length ls)) (e ∙ sets-eq (map row_of ls) old 0 (omega arith))
+    ∙ take_at (map row_of ls) (drop (0 + length (map row_of ls)) old) (length ls) n
 
 module _ (levels : List ℕ) {heights flags parents joins cells₀ ends₀ : List ℕ} {count : ℕ}
-    (K : NotedLakes heights flags parents joins (level_of levels) cells₀ ends₀ count) (old : List ℕ) where
+    (K : NotedLakes heights flags parents joins (level_of levels) cells₀ ends₀ count) (old : List Row) where
   abbrev L : Land
   L = K.land
 
@@ -45,7 +46,7 @@ module _ (levels : List ℕ) {heights flags parents joins cells₀ ends₀ : Lis
   cells_few =
       omega (arith, sym (length-drop (at ends₀ 0) cells₀) ∙ ap length K.cells_are ∙ length-append (flat (λ g. g) K.gs) K.rest)
 
-  module _ {cells ends new : List ℕ} {x next : ℕ} (W : Walked K 64 0 old cells ends new x next) where
+  module _ {cells ends : List ℕ} {new : List Row} {x next : ℕ} (W : Walked K 64 0 old cells ends new x next) where
     -- so no more lakes are listed than a tile has cells
     pub next_small : {spare index : List ℕ} → Room heights cells₀ spare index old 0 → next ≤ 4096
     next_small R =
@@ -84,7 +85,7 @@ module _ (levels : List ℕ) {heights flags parents joins cells₀ ends₀ : Lis
           (subst (λ (c : ℕ). c ∈ part) (ap (λ (l : List ℕ). at l 0) T.part_is ∙ sym first_is_fact)
           (at_member part 0 first-lake.is.some))
 
-      pub first-told : {new' : List ℕ} {next' : ℕ}
+      pub first-told : {new' : List Row} {next' : Option ℕ}
           → ((J : NotedLake heights flags parents joins (at levels first) part)
           → Listed 64 (depth J.land (at levels first) part) next (length part) (lakes_of J.land (at levels first) part) new new' next')
           → (J : NotedLake heights flags parents joins (level_of levels T.g) part)
@@ -95,10 +96,11 @@ module _ (levels : List ℕ) {heights flags parents joins cells₀ ends₀ : Lis
           first_is_fact
 
       -- it is the first that is too deep
-      pub found_deep : {rows : List ℕ} → 64 < deep_at K 64 0 old T.g → FoundAmong L levels K.gs (TooDeep (as_cell first)) rows
-      found_deep h =
+      pub found_deep : {rows : List Row} {found : Result ℕ TooDeep} → found ≡ Err (too_deep_at first) → 64 < deep_at K 64 0 old T.g
+          → FoundAmong L levels K.gs found rows
+      found_deep e h =
           record {
-            found_is = ap (λ (c : ℕ). TooDeep (as_cell c)) first_is_fact ∙ ap (λ (l : List (List ℕ)). found_of l (lakes_in L levels K.gs)) (sym kept);
+            found_is = e ∙ ap (λ (c : ℕ). Err (too_deep_at c)) first_is_fact ∙ ap (λ (l : List (List ℕ)). found_of l (lakes_in L levels K.gs)) (sym kept);
             rows_are = λ e. absurd (never (sym kept ∙ e));
             lakes_few = λ e. absurd (never (sym kept ∙ e));
           }
@@ -114,11 +116,11 @@ module _ (levels : List ℕ) {heights flags parents joins cells₀ ends₀ : Lis
 
     -- none is too deep
     pub found_all : {spare index : List ℕ} → Room heights cells₀ spare index old 0 → count ≤ x
-        → FoundAmong L levels K.gs (Lakes next) new
+        → FoundAmong L levels K.gs (Ok next) new
     found_all R h =
         record {
           found_is =
-              ap Lakes count_is ∙ ap (λ (l : List (List ℕ)). found_of l (lakes_in L levels K.gs)) (sym none);
+              ap Ok count_is ∙ ap (λ (l : List (List ℕ)). found_of l (lakes_in L levels K.gs)) (sym none);
           rows_are = λ e. rows-first old (lakes_in L levels K.gs) written (omega (arith, few, cells_few, R.rows_fit));
           lakes_few = λ e. few;
         }
@@ -135,5 +137,5 @@ module _ (levels : List ℕ) {heights flags parents joins cells₀ ends₀ : Lis
         few : length (lakes_in L levels K.gs) ≤ length (flat (λ g. g) K.gs)
         few = omega (arith, count_is, W.next_fits, ap (λ (l : List (List ℕ)). length (flat (λ g. g) l)) all)
 
-        written : new ≡ sets old (2 * 0) (flat row_of (lakes_in L levels K.gs))
-        written = W.written ∙ ap (λ (l : List (List ℕ)). sets old (2 * 0) (flat row_of (lakes_in L levels l))) (sym all)
+        written : new ≡ sets old 0 (map row_of (lakes_in L levels K.gs))
+        written = W.written ∙ ap (λ (l : List (List ℕ)). sets old 0 (map row_of (lakes_in L levels l))) (sym all)

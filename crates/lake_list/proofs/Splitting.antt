@@ -7,14 +7,14 @@ use mathlib.Core.Path.{ap, refl, sym, ◌∙◌, ◌≡◌}
 use Prim.Native.Nat.{suc, ℕ, ◌*◌, ◌+◌, ◌-◌, ◌<◌, ◌≤◌}
 use native.Mathlib.Omega.{arith}
 use lib.Dec.{eqb, ltb}
-use lib.ListN.{length, length-append}
+use lib.ListN.{length, length-append, set}
 use lib.Seq.{sets}
 use borrow.Author.Tests.{le-ltb}
 use Rattle.lake_groups.specs.Gathering.{dry, Gatherable, Gathered}
 use Rattle.lake_list.proofs.Gathering.{Closed, gatherable, gathered_count, gathered_few, gathered_lakes}
 use Rattle.lake_list.proofs.Storing.{stored_next}
 use Rattle.lake_list.specs.Listing.{LakeOf, NotedLake, NotedLakes, Listed, listed, too_deep_fact}
-use Rattle.lake_list.specs.Measured.{no_place, row_in, RowPut}
+use Rattle.lake_list.specs.Measured.{row_in}
 use Rattle.lake_list.specs.Rows.{row_of}
 use Rattle.lake_rules.proofs.Flags.{flag_split, lake-inside, stay}
 use Rattle.lake_rules.proofs.GroupsPart.{groups_ascending, groups-not_empty}
@@ -31,6 +31,8 @@ use Rattle.lists.proofs.Tests.{so_not}
 use Rattle.lists.specs.Greatest.{greatest}
 use Rattle.lists.specs.Lists.{at, flat, keep, sum, ◌∈◌}
 use Rattle.rules.specs.Land.{Land}
+use Rattle.std.specs.Prelude.{None, Option, Some}
+use Rattle.lake_list.specs.declared.Row.{Row}
 
 module _ {heights flags parents joins : List ℕ} {level : ℕ} {s : List ℕ} (K : NotedLake heights flags parents joins level s) where
   abbrev L : Land
@@ -56,7 +58,7 @@ module _ {heights flags parents joins : List ℕ} {level : ℕ} {s : List ℕ} (
       (ap sum (map_same (λ c. level - at heights c) (λ c. level - L.height c) s (λ c m. ap (λ (z : ℕ). level - z) (sym (K.notes.ground c)))))
 
   -- no lake has depth 0
-  pub lake-none : {left from room : ℕ} {old new : List ℕ} → left ≡ 0 → Listed left (depth L level s) from room (lakes_of L level s) old new no_place
+  pub lake-none : {left from room : ℕ} {old new : List Row} → left ≡ 0 → Listed left (depth L level s) from room (lakes_of L level s) old new None
   lake-none e = too_deep_fact (omega (arith, depth_of L level s)) refl
 
   module _ {h : ℕ} (told : h ≡ greatest (map (at heights) (keep (λ c. eqb (at flags c) 1) s))) where
@@ -147,14 +149,14 @@ module _ {heights flags parents joins : List ℕ} {level : ℕ} {s : List ℕ} (
           omega (arith, K.is.some, gathered_count K.notes K.wet_ascending h top closed K.is.ascending G full fits (λ g m. (inner_lake g m).some))
 
       -- the lakes inside were listed, and it comes after them
-      module _ {left from : ℕ} {old mid : List ℕ} {next : ℕ} (fine : 0 < left) (small : from + length s ≤ 4096)
+      module _ {left from : ℕ} {old mid : List Row} {inner_next : Option ℕ} (fine : 0 < left)
           (E : (J : NotedLakes heights flags parents joins (λ g. h) cells ends count)
           → Listed (left - 1) (greatest (map (depth J.land h) J.gs)) from (length (flat (λ g. g) J.gs))
-          (flat (lakes_of J.land h) J.gs) old mid next) where
+          (flat (lakes_of J.land h) J.gs) old mid inner_next) where
         abbrev InnerListed : Type 0
         InnerListed =
             Listed (left - 1) (greatest (map (depth L h) (groups L (lower L h s)))) from (length (flat (λ g. g) (groups L (lower L h s))))
-            (flat (lakes_of L h) (groups L (lower L h s))) old mid next
+            (flat (lakes_of L h) (groups L (lower L h s))) old mid inner_next
 
         D : InnerListed
         unfolding inner gathered_lakes
@@ -163,25 +165,36 @@ module _ {heights flags parents joins : List ℕ} {level : ℕ} {s : List ℕ} (
         few : length (flat (λ g. g) (groups L (lower L h s))) < length s
         few = omega (arith, dry_some, gathered_few K.notes K.wet_ascending h top closed K.is.ascending G full fits)
 
-        pub next_few : (next ≤ 4097) × (next ≤ 4096 → next < from + length s)
-        next_few = go D
-          where
-            go : InnerListed → (next ≤ 4097) × (next ≤ 4096 → next < from + length s)
-            go (listed d n f w) = (omega (arith, few), λ l. omega (arith, few))
-            go (too_deep_fact d n) = (omega arith, λ l. absurd (omega arith))
-
-        pub lake_listed : {row new : List ℕ} {r : ℕ} → row ≡ row_in heights level s → RowPut mid next row new r
+        -- one of them was too deep
+        pub lake_over : {new : List Row} {r : Option ℕ} → inner_next ≡ None → r ≡ None
             → Listed left (depth L level s) from (length s) (lakes_of L level s) old new r
-        lake_listed {row} {new} {r} e P = go D
+        lake_over {new} {r} e f = go D
           where
             go : InnerListed → Listed left (depth L level s) from (length s) (lakes_of L level s) old new r
-            go (listed d n f w) =
-                let P' = P.put (omega (arith, few)) in
-                let a : r ≡ next + 1 = P'.0 in
-                let b : length (lakes_of L level s) ≡ length (flat (lakes_of L h) (groups L (lower L h s))) + 1 =
-                ap length lakes-here ∙ length-append (flat (lakes_of L h) (groups L (lower L h s))) (lake_of L level s ∷ []) in
-                listed (omega (arith, depth-here)) (omega arith) (omega (arith, few))
-                (P'.1 ∙ ap (sets mid (2 * next)) (e ∙ row_here)
-                ∙ stored_next old from (flat (lakes_of L h) (groups L (lower L h s))) (lake_of L level s ∷ []) w n
-                ∙ ap (λ (z : List Lake). sets old (2 * from) (flat row_of z)) (sym lakes-here))
-            go (too_deep_fact d n) = too_deep_fact (omega (arith, depth-here)) (P.skipped n)
+            go (listed d n f w) = let z : ◌≡◌ {A = ℕ} 0 1 = cc in absurd (omega arith)
+            go (too_deep_fact d n) = too_deep_fact (omega (arith, depth-here)) f
+
+        module _ {next : ℕ} (given : inner_next ≡ Some next) where
+          pub next_few : next < from + length s
+          next_few = go D
+            where
+              go : InnerListed → next < from + length s
+              go (listed d n f w) =
+                  let q : next ≡ from + length (flat (lakes_of L h) (groups L (lower L h s))) = (cc) in
+                  omega (arith, few)
+              go (too_deep_fact d n) = let z : ◌≡◌ {A = ℕ} 0 1 = cc in absurd (omega arith)
+
+          pub lake_listed : {row : Row} → row ≡ row_in heights level s
+              → Listed left (depth L level s) from (length s) (lakes_of L level s) old (set mid next row) (Some (next + 1))
+          lake_listed {row} e = go D
+            where
+              go : InnerListed → Listed left (depth L level s) from (length s) (lakes_of L level s) old (set mid next row) (Some (next + 1))
+              go (listed d n f w) =
+                  let q : next ≡ from + length (flat (lakes_of L h) (groups L (lower L h s))) = (cc) in
+                  let b : length (lakes_of L level s) ≡ length (flat (lakes_of L h) (groups L (lower L h s))) + 1 =
+                  ap length lakes-here ∙ length-append (flat (lakes_of L h) (groups L (lower L h s))) (lake_of L level s ∷ []) in
+                  listed (omega (arith, depth-here)) (ap Some (let z = b in omega arith)) (omega (arith, few))
+                  (ap (set mid next) (e ∙ row_here)
+                  ∙ stored_next old from (flat (lakes_of L h) (groups L (lower L h s))) (lake_of L level s ∷ []) w q
+                  ∙ ap (λ (z : List Lake). sets old from (map row_of z)) (sym lakes-here))
+              go (too_deep_fact d n) = let z : ◌≡◌ {A = ℕ} 0 1 = cc in absurd (omega arith)

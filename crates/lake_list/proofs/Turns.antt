@@ -11,15 +11,16 @@ use lib.Seq.{length-take-le}
 use borrow.Rule.Slice.PartMut.{mid_of, put_mid, same_len_mid}
 use Rattle.lake_list.proofs.Walking.{deep_at, lakes_at, Turn, turn_done, walk_all, Walked}
 use Rattle.lake_list.specs.Listing.{LakeOf, NotedLake, NotedLakes, Listed, listed, Room, too_deep_fact}
-use Rattle.lake_list.specs.Measured.{no_place}
 use Rattle.lake_rules.specs.Lakes.{depth, lakes_of}
 use Rattle.lists.proofs.Greatest.{greatest_mem, greatest-most}
 use Rattle.lists.proofs.Map.{map_holds, map_member}
 use Rattle.lists.specs.Greatest.{greatest}
 use Rattle.lists.specs.Lists.{at, flat, ◌∈◌}
+use Rattle.std.specs.Prelude.{None, Option, Some}
+use Rattle.lake_list.specs.declared.Row.{Row}
 
 -- what a walk keeps of five lent lists: their lengths
-pub record Kept (cells₀ cells spare₀ spare ends₀ ends index₀ index rows₀ rows : List ℕ) : Type 0 where
+pub record Kept (cells₀ cells spare₀ spare ends₀ ends index₀ index : List ℕ) (rows₀ rows : List Row) : Type 0 where
   pub cells_kept : length cells ≡ length cells₀
   pub spare_kept : length spare ≡ length spare₀
   pub ends_kept : length ends ≡ length ends₀
@@ -37,7 +38,8 @@ pub record Bounds (cells spare ends : List ℕ) (x count : ℕ) : Type 0 where
   pub cells_few : length cells ≤ 4096
 
 -- parts of three of them came back, and two whole lists
-pub kept_on : {cells₀ cells spare₀ spare ends₀ ends index₀ index rows₀ rows : List ℕ} (a k rest : ℕ) (cells' spare' ends' index' rows' : List ℕ)
+pub kept_on : {cells₀ cells spare₀ spare ends₀ ends index₀ index : List ℕ} {rows₀ rows : List Row} (a k rest : ℕ)
+    (cells' spare' ends' index' : List ℕ) (rows' : List Row)
     → Kept cells₀ cells spare₀ spare ends₀ ends index₀ index rows₀ rows
     → length cells' ≡ length (mid_of a k cells)
     → length spare' ≡ length (mid_of a k spare)
@@ -55,8 +57,8 @@ kept_on {cells = cells} {spare = spare} {ends = ends} a k rest cells' spare' end
     }
 
 module _ {heights flags parents joins : List ℕ} {level_of : List ℕ → ℕ} {cells₀ ends₀ : List ℕ} {count : ℕ}
-    (K : NotedLakes heights flags parents joins level_of cells₀ ends₀ count) (left from : ℕ) (old : List ℕ) where
-  module _ {cells ends new : List ℕ} {x next : ℕ} (W : Walked K left from old cells ends new x next) (T : Turn K left from old W) where
+    (K : NotedLakes heights flags parents joins level_of cells₀ ends₀ count) (left from : ℕ) (old : List Row) where
+  module _ {cells ends : List ℕ} {new : List Row} {x next : ℕ} (W : Walked K left from old cells ends new x next) (T : Turn K left from old W) where
     -- the part of the turn's lake, of any list
     abbrev part : List ℕ → List ℕ
     part l = take (at ends (x + 1) - at ends x) (drop (at ends x) l)
@@ -77,7 +79,7 @@ module _ {heights flags parents joins : List ℕ} {level_of : List ℕ → ℕ} 
         length-take-le (at ends (x + 1) - at ends x) (drop (at ends x) l) (omega (arith, T.end_is, T.end_fits))
         ∙ (let e : at ends (x + 1) - at ends x ≡ length T.g = omega (arith, T.end_is) in e)
 
-    module _ {spare₀ spare index₀ index rows₀ rows : List ℕ} (S : Kept cells₀ cells spare₀ spare ends₀ ends index₀ index rows₀ rows)
+    module _ {spare₀ spare index₀ index : List ℕ} {rows₀ rows : List Row} (S : Kept cells₀ cells spare₀ spare ends₀ ends index₀ index rows₀ rows)
         (R : Room heights cells₀ spare₀ index₀ rows₀ from) where
       pub turn_room : Room heights (part cells) (part spare) index rows next
       turn_room =
@@ -116,10 +118,6 @@ module _ {heights flags parents joins : List ℕ} {level_of : List ℕ → ℕ} 
             cells_few = omega arith;
           }
 
-      -- fewer lakes than the answer for a lake that is too deep
-      next_few : next + length T.g ≤ 4096
-      next_few = omega (arith, T.end_fits, T.start_fits, S.cells_kept, R.few)
-
       -- fewer cells than all
       pub turn_fewer : 0 < at ends₀ 0 → length (part cells) < length cells₀
       turn_fewer h =
@@ -127,7 +125,7 @@ module _ {heights flags parents joins : List ℕ} {level_of : List ℕ → ℕ} 
           omega (arith, T.end_fits, W.start_is, S.cells_kept)
 
       -- what is told of the part, for whatever land it is a lake of
-      module _ {new' : List ℕ} {next' : ℕ}
+      module _ {new' : List Row} {next' : Option ℕ}
           (E : (J : NotedLake heights flags parents joins (level_of T.g) (part cells))
           → Listed left (depth J.land (level_of T.g) (part cells)) next (length (part cells))
           (lakes_of J.land (level_of T.g) (part cells)) new new' next') where
@@ -137,43 +135,44 @@ module _ {heights flags parents joins : List ℕ} {level_of : List ℕ → ℕ} 
             subst (λ (z : List ℕ). Listed left (depth K.land (level_of T.g) z) next (length z) (lakes_of K.land (level_of T.g) z) new new' next')
             T.part_is (E turn_lake)
 
-        pub turn_over : next' ≡ no_place → left < deep_at K left from old T.g
+        pub turn_over : next' ≡ None → left < deep_at K left from old T.g
         turn_over e = go D'
           where
             go : Listed left (deep_at K left from old T.g) next (length T.g) (lakes_at K left from old T.g) new new' next'
                 → left < deep_at K left from old T.g
-            go (listed d n f w) = absurd (omega (arith, next_few))
+            go (listed d n f w) = let z : ◌≡◌ {A = ℕ} 0 1 = cc in absurd (omega arith)
             go (too_deep_fact d n) = d
 
-        pub turn_again : (next' ≡ no_place → ⊥) → (back z : List ℕ) {rest : ℕ} → rest ≡ count + 1 → length back ≡ length (part cells)
+        pub turn_again : {m : ℕ} → next' ≡ Some m → (back z : List ℕ) {rest : ℕ} → rest ≡ count + 1 → length back ≡ length (part cells)
             → Walked K left from old (take (at ends x) cells ++ (back ++ drop (at ends (x + 1) - at ends x) (drop (at ends x) cells)))
-            (take rest ends ++ z) new' (x + 1) next'
-        turn_again e back z {rest} r p = go D'
+            (take rest ends ++ z) new' (x + 1) m
+        turn_again {m} e back z {rest} r p = go D'
           where
             go : Listed left (deep_at K left from old T.g) next (length T.g) (lakes_at K left from old T.g) new new' next'
                 → Walked K left from old (take (at ends x) cells ++ (back ++ drop (at ends (x + 1) - at ends x) (drop (at ends x) cells)))
-                (take rest ends ++ z) new' (x + 1) next'
+                (take rest ends ++ z) new' (x + 1) m
             go (listed d n f w) =
-                turn_done K left from old W T back z r (omega (arith, T.ends_fit, S.ends_kept)) (p ∙ ap length T.part_is) d n f w
-            go (too_deep_fact d n) = absurd (e n)
+                let q : m ≡ next + length (lakes_at K left from old T.g) = (cc) in
+                turn_done K left from old W T back z r (omega (arith, T.ends_fit, S.ends_kept)) (p ∙ ap length T.part_is) d q f w
+            go (too_deep_fact d n) = let z : ◌≡◌ {A = ℕ} 0 1 = cc in absurd (omega arith)
 
     -- where a lake is too deep, so are they all
-    pub all_over : {new' : List ℕ} {room : ℕ} → left < deep_at K left from old T.g
-        → Listed left (greatest (map (deep_at K left from old) K.gs)) from room (flat (lakes_at K left from old) K.gs) old new' no_place
-    all_over d =
+    pub all_over : {new' : List Row} {room : ℕ} {next' : Option ℕ} → next' ≡ None → left < deep_at K left from old T.g
+        → Listed left (greatest (map (deep_at K left from old) K.gs)) from room (flat (lakes_at K left from old) K.gs) old new' next'
+    all_over e d =
         let m : deep_at K left from old T.g ≤ greatest (map (deep_at K left from old) K.gs) =
         greatest-most (map (deep_at K left from old) K.gs) (map_holds (deep_at K left from old) T.member) in
-        too_deep_fact (omega arith) refl
+        too_deep_fact (omega arith) e
 
   -- after the last turn all are listed, and none is too deep
-  pub all_listed : {cells ends new : List ℕ} {x next : ℕ} → Walked K left from old cells ends new x next → count ≤ x
+  pub all_listed : {cells ends : List ℕ} {new : List Row} {x next : ℕ} → Walked K left from old cells ends new x next → count ≤ x
       → Listed left (greatest (map (deep_at K left from old) K.gs)) from (length (flat (λ g. g) K.gs))
-      (flat (lakes_at K left from old) K.gs) old new next
+      (flat (lakes_at K left from old) K.gs) old new (Some next)
   all_listed {cells} {ends} {new} {x} {next} W h =
       subst (λ (z : List (List ℕ)). Listed left (greatest (map (deep_at K left from old) z)) from (length (flat (λ g. g) z))
-      (flat (lakes_at K left from old) z) old new next)
+      (flat (lakes_at K left from old) z) old new (Some next))
       (sym (walk_all K left from old W h))
-      (listed (shallow (greatest_mem (map (deep_at K left from old) W.behind))) W.next_is W.next_fits W.written)
+      (listed (shallow (greatest_mem (map (deep_at K left from old) W.behind))) (ap Some W.next_is) (omega (arith, W.next_is, W.next_fits)) W.written)
     where
       deepest : ℕ
       deepest = greatest (map (deep_at K left from old) W.behind)

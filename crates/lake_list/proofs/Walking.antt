@@ -2,7 +2,7 @@
 -- Assumes nothing.
 use mathlib.Core.List.Memᴰ.{append_cases as in-append}
 use mathlib.Core.List.Memᴰ.{eq_of_singleton as in-only}
-use mathlib.Core.List.{[], append_assoc, append-nil, List, ◌++◌}
+use mathlib.Core.List.{[], append_assoc, append-nil, List, map, ◌++◌}
 use mathlib.Core.List.Memᴰ.{append_right as in_right}
 use mathlib.Core.List.Memᴰ.{head as in_head}
 use mathlib.Core.List.Memᴰ.{not-nil as in-none}
@@ -21,6 +21,7 @@ use Rattle.lake_list.specs.Rows.{row_of}
 use Rattle.lake_rules.specs.Lakes.{depth, Lake, lakes_of}
 use Rattle.lists.proofs.Flat.{flat_append}
 use Rattle.lists.specs.Lists.{at, flat, ◌∈◌}
+use Rattle.lake_list.specs.declared.Row.{Row}
 
 -- the ends of n lists read only n entries
 ends_same : (gs : List (List ℕ)) (a x : ℕ) (ends new : List ℕ) → ((i : ℕ) → i < x + length gs → at new i ≡ at ends i) → Ends gs a x ends → Ends gs a x new
@@ -29,7 +30,7 @@ ends_same (g ∷ gs) a x ends new same e =
     (same x (omega arith) ∙ e.0, ends_same gs (a + length g) (suc x) ends new (λ i l. same i (omega arith)) e.1)
 
 module _ {heights flags parents joins : List ℕ} {level_of : List ℕ → ℕ} {cells₀ ends₀ : List ℕ} {count : ℕ}
-    (K : NotedLakes heights flags parents joins level_of cells₀ ends₀ count) (left from : ℕ) (old : List ℕ) where
+    (K : NotedLakes heights flags parents joins level_of cells₀ ends₀ count) (left from : ℕ) (old : List Row) where
   -- what is listed of a lake, and how deep it is
   abbrev pub lakes_at : List ℕ → List Lake
   lakes_at g = lakes_of K.land (level_of g) g
@@ -41,7 +42,7 @@ module _ {heights flags parents joins : List ℕ} {level_of : List ℕ → ℕ} 
   cells_of gs = flat (λ g. g) gs
 
   -- the lakes before lake x are listed; the others stand as they did
-  pub record Walked (cells ends new : List ℕ) (x next : ℕ) : Type 0 where
+  pub record Walked (cells ends : List ℕ) (new : List Row) (x next : ℕ) : Type 0 where
     pub behind : List (List ℕ)
     pub ahead : List (List ℕ)
     pub all : K.gs ≡ behind ++ ahead
@@ -51,7 +52,7 @@ module _ {heights flags parents joins : List ℕ} {level_of : List ℕ → ℕ} 
     pub ends_left : Ends ahead (at ends x) (suc x) ends
     pub next_is : next ≡ from + length (flat lakes_at behind)
     pub next_fits : next ≤ from + length (cells_of behind)
-    pub written : new ≡ sets old (2 * from) (flat row_of (flat lakes_at behind))
+    pub written : new ≡ sets old from (map row_of (flat lakes_at behind))
     pub shallow : (g : List ℕ) → g ∈ behind → deep_at g ≤ left
 
   -- before the first turn
@@ -71,7 +72,7 @@ module _ {heights flags parents joins : List ℕ} {level_of : List ℕ → ℕ} 
         shallow = λ g m. absurd (in-none m);
       }
 
-  module _ {cells ends new : List ℕ} {x next : ℕ} (W : Walked cells ends new x next) where
+  module _ {cells ends : List ℕ} {new : List Row} {x next : ℕ} (W : Walked cells ends new x next) where
     -- the lake of a turn
     pub record Turn : Type 0 where
       pub g : List ℕ
@@ -122,14 +123,14 @@ module _ {heights flags parents joins : List ℕ} {level_of : List ℕ → ℕ} 
                   ∙ take_at g (cells_of more ++ K.rest) (at ends (x + 1) - at ends x) (omega arith);
             }
 
-    module _ (T : Turn) {new' : List ℕ} {next' : ℕ} where
+    module _ (T : Turn) {new' : List Row} {next' : ℕ} where
       -- it was listed
       pub turn_done : (back z : List ℕ) {rest : ℕ} → rest ≡ count + 1 → rest ≤ length ends
           → length back ≡ length T.g
           → deep_at T.g ≤ left
           → next' ≡ next + length (lakes_at T.g)
-          → next' ≤ next + length T.g
-          → new' ≡ sets new (2 * next) (flat row_of (lakes_at T.g))
+          → length (lakes_at T.g) ≤ length T.g
+          → new' ≡ sets new next (map row_of (lakes_at T.g))
           → Walked (take (at ends x) cells ++ (back ++ drop (at ends (x + 1) - at ends x) (drop (at ends x) cells))) (take rest ends ++ z) new' (x + 1) next'
       turn_done back z {rest} r q p d n f w =
           let a : ℕ = at ends x in
@@ -164,7 +165,7 @@ module _ {heights flags parents joins : List ℕ} {level_of : List ℕ → ℕ} 
             next_fits = omega (arith, W.next_fits);
             written =
                 w ∙ stored_next old from (flat lakes_at W.behind) (lakes_at T.g) W.written W.next_is
-                ∙ ap (λ (l : List Lake). sets old (2 * from) (flat row_of l)) (sym more);
+                ∙ ap (λ (l : List Lake). sets old from (map row_of l)) (sym more);
             shallow = λ g m. one g (in-append W.behind m);
           }
         where

@@ -11,7 +11,9 @@ use Rattle.lake_list.proofs.Gathering.{Closed, gatherable, gathered_count, gathe
 use Rattle.lake_list.specs.Listing.{LakeOf, NotedLakes}
 use Rattle.lake_list.specs.Outermost.{FoundAmong, NotedWet}
 use Rattle.lake_list.specs.Rows.{FoundIn}
-use Rattle.lake_list.specs.declared.Found.{Found}
+use Rattle.std.specs.Prelude.{Result}
+use Rattle.lake_list.specs.declared.Row.{Row}
+use Rattle.lake_list.specs.declared.TooDeep.{TooDeep}
 use Rattle.lake_notes.specs.Noting.{Levelled, Noted}
 use Rattle.lake_rules.proofs.GroupsPart.{groups_ascending, groups-not_empty}
 use Rattle.lake_rules.proofs.Lower.{mem_lower}
@@ -85,7 +87,7 @@ module _ {heights flags parents joins cells : List ℕ} (levels : List ℕ) (K :
         )
 
     -- what is found among them is found on the land
-    pub found_in : {found : Found} {rows : List ℕ}
+    pub found_in : {found : Result ℕ TooDeep} {rows : List Row}
         → ((J : NotedLakes heights flags parents joins (level_of levels) out ends count) → FoundAmong J.land levels J.gs found rows)
         → FoundIn L levels found rows
     unfolding outer gathered_lakes lakes too_deep
@@ -123,7 +125,7 @@ module _ (L : Land) {w : ℕ} {heights levels before cells flags parents joins :
   noted_few = (omega (arith, N.count_is, wet_few L levels, N.notes.cells), N.notes.few)
 
   -- what is found on the land of the wet cells
-  pub found_noted : {found : Found} {rows : List ℕ}
+  pub found_noted : {found : Result ℕ TooDeep} {rows : List Row}
       → ((K : NotedWet heights levels flags parents joins (take count cells)) → FoundIn K.land levels found rows)
       → Local L levels → FoundIn L levels found rows
   unfolding noted-wet

@@ -1,15 +1,15 @@
 -- What the listing of lakes is worked out from, and what it leaves.
 -- Assumes nothing.
-use Rattle.std.specs.Prelude.{List, ◌++◌, ◌≡◌, ℕ, ◌*◌, ◌+◌, ◌<◌, ◌≤◌, drop, length}
+use Rattle.std.specs.Prelude.{List, map, None, Option, Some, ◌++◌, ◌≡◌, ℕ, ◌*◌, ◌+◌, ◌<◌, ◌≤◌, drop, length}
 use Rattle.std.proofs.lemmas.List.Edits.{sets}
 use Rattle.lake_groups.specs.Gathering.{Ends}
-use Rattle.lake_list.specs.Measured.{no_place}
 use Rattle.lake_list.specs.Rows.{row_of}
 use Rattle.lake_rules.specs.Lakes.{Lake}
 use Rattle.lake_rules.specs.Notes.{highest, LakeIn, Notes}
 use Rattle.lists.specs.Ascending.{Ascending}
 use Rattle.lists.specs.Lists.{at, flat, ◌∈◌}
 use Rattle.rules.specs.Land.{Land}
+use Rattle.lake_list.specs.declared.Row.{Row}
 
 -- s is a lake of this level in the set S of wet cells: its cells, ascending, of which there is one at least
 pub record LakeOf (L : Land) (S : List ℕ) (level : ℕ) (s : List ℕ) : Type 0 where
@@ -42,15 +42,15 @@ pub record NotedLakes (heights flags parents joins : List ℕ) (level_of : List 
   pub ends_fit : (g : List ℕ) → g ∈ gs → count + 1 + 2 * length g ≤ length ends
 
 -- work space for the cells, and room for as many lakes as cells after the first `from`; a tile has no more cells than 4096
-pub record Room (heights cells spare index rows : List ℕ) (from : ℕ) : Type 0 where
+pub record Room (heights cells spare index : List ℕ) (rows : List Row) (from : ℕ) : Type 0 where
   pub spare_fits : length spare ≡ length cells
   pub index_fits : length heights ≤ length index
   pub few : from + length cells ≤ 4096
-  pub rows_fit : 2 * (from + length cells) ≤ length rows
+  pub rows_fit : from + length cells ≤ length rows
 
 -- lakes of depth `deep`, of which `left` is allowed, listed after the first `from`: their rows are stored, and the answer is how many
 -- lakes are listed then, no more than cells. Or they are too deep
-pub data Listed (left deep from room : ℕ) (ls : List Lake) (old new : List ℕ) (next : ℕ) : Type 0 where
-  listed : deep ≤ left → next ≡ from + length ls → next ≤ from + room → new ≡ sets old (2 * from) (flat row_of ls)
+pub data Listed (left deep from room : ℕ) (ls : List Lake) (old new : List Row) (next : Option ℕ) : Type 0 where
+  listed : deep ≤ left → next ≡ Some (from + length ls) → length ls ≤ room → new ≡ sets old from (map row_of ls)
       → Listed left deep from room ls old new next
-  too_deep_fact : left < deep → next ≡ no_place → Listed left deep from room ls old new next
+  too_deep_fact : left < deep → next ≡ None → Listed left deep from room ls old new next

@@ -1,7 +1,8 @@
 -- What the listing of all outermost lakes is worked out from, and what it leaves.
 -- Assumes nothing.
-use Rattle.std.specs.Prelude.{Bool, [], List, ◌≡◌, ℕ, ◌*◌, ◌≤◌, ltb, length, take}
-use Rattle.lake_list.specs.declared.Found.{Found}
+use Rattle.std.specs.Prelude.{Bool, [], List, map, Result, ◌≡◌, ℕ, ◌≤◌, ltb, length, take}
+use Rattle.lake_list.specs.declared.Row.{Row}
+use Rattle.lake_list.specs.declared.TooDeep.{TooDeep}
 use Rattle.lake_list.specs.Rows.{found_of, row_of}
 use Rattle.lake_rules.specs.Lakes.{depth, Lake, lakes_of, level_of, wet_cells}
 use Rattle.lake_rules.specs.LocalLevels.{Local}
@@ -27,7 +28,7 @@ abbrev pub lakes_in : Land → List ℕ → List (List ℕ) → List Lake
 lakes_in L levels gs = flat (λ s. lakes_of L (level_of levels s) s) gs
 
 -- what is found among them
-pub record FoundAmong (L : Land) (levels : List ℕ) (gs : List (List ℕ)) (found : Found) (rows : List ℕ) : Type 0 where
+pub record FoundAmong (L : Land) (levels : List ℕ) (gs : List (List ℕ)) (found : Result ℕ TooDeep) (rows : List Row) : Type 0 where
   pub found_is : found ≡ found_of (keep (is_deep L levels) gs) (lakes_in L levels gs)
-  pub rows_are : keep (is_deep L levels) gs ≡ [] → take (2 * length (lakes_in L levels gs)) rows ≡ flat row_of (lakes_in L levels gs)
+  pub rows_are : keep (is_deep L levels) gs ≡ [] → take (length (lakes_in L levels gs)) rows ≡ map row_of (lakes_in L levels gs)
   pub lakes_few : keep (is_deep L levels) gs ≡ [] → length (lakes_in L levels gs) ≤ length (flat (λ g. g) gs)

@@ -5,10 +5,11 @@ ghost use Rattle.lake_rules.specs.Lakes.{depth, lakes_of};
 ghost use Rattle.lists.specs.Greatest.{greatest};
 ghost use Rattle.lists.specs.Lists.{at, flat};
 
-use crate::measuring::{NO_PLACE, put_row, row_of, split_height};
+use crate::Row;
+use crate::measuring::{row_of, split_height};
 use lake_groups::gather;
 
-// A lake, after all the lakes inside it. Gives how many lakes are listed then, or NO_PLACE where it is deeper than `left`. A lake that
+// A lake, after all the lakes inside it. Gives how many lakes are listed then, or None where it is deeper than `left`. A lake that
 // never splits has no group of cells below its split, 0.
 #[cycle(list_groups_list_lake)]
 pub fn list_lake(
@@ -23,8 +24,8 @@ pub fn list_lake(
     level: u32,
     left: usize,
     from: usize,
-    rows: &mut [u64],
-) -> usize
+    rows: &mut [Row],
+) -> Option<usize>
     requires noted_lake { NotedLake heights.now flags.now parents.now joins.now level cells.old }
     requires room { Room heights.now cells.old spare.old index.old rows.old «from» × (2 * length cells.old ≤ length ends.old) }
     ensures { (K : NotedLake heights.now flags.now parents.now joins.now level cells.old)
@@ -32,7 +33,7 @@ pub fn list_lake(
         (lakes_of K.land level cells.old) rows.old rows.new result }
 {
     if left == 0 {
-        return NO_PLACE;
+        return None;
     }
     let row = row_of(heights, cells, level);
     let h = split_height(heights, flags, cells);
@@ -51,12 +52,13 @@ pub fn list_lake(
         left - 1,
         from,
         rows,
-    );
-    put_row(rows, next, row)
+    )?;
+    rows[next] = row;
+    Some(next + 1)
 }
 
 // The lakes of one level that stand one after the other in `cells`, each after all the lakes inside it: entry x of `ends` says where
-// lake x begins, and the next where it ends. Gives how many lakes are listed then, or NO_PLACE where one is deeper than `left`.
+// lake x begins, and the next where it ends. Gives how many lakes are listed then, or None where one is deeper than `left`.
 #[cycle(list_groups_list_lake)]
 fn list_groups(
     heights: &[u32],
@@ -71,8 +73,8 @@ fn list_groups(
     level: u32,
     left: usize,
     from: usize,
-    rows: &mut [u64],
-) -> usize
+    rows: &mut [Row],
+) -> Option<usize>
     requires noted_lakes { NotedLakes heights.now flags.now parents.now joins.now (λ (g : List ℕ). level) cells.old ends.old count }
     requires room { Room heights.now cells.old spare.old index.old rows.old «from»
         × (0 < at ends.old 0) × (count ≤ length cells.old) }
@@ -100,10 +102,7 @@ fn list_groups(
             left,
             next,
             rows,
-        );
-        if next == NO_PLACE {
-            return NO_PLACE;
-        }
+        )?;
     }
-    next
+    Some(next)
 }

@@ -16,53 +16,37 @@ pub fn wet_cells(heights: &[u32], levels: &[u32], cells: &mut [u16]) -> usize
         ≡ overwrite (wet_below heights.now levels.now (length heights.now)) cells.old) }
 {
     let mut k = 0;
-    let mut c = 0;
-    while c < heights.len() {
+    for c in 0..heights.len() {
         if heights[c] < levels[c] {
             cells[k] = c as u16;
             k += 1;
-            c += 1;
-        } else {
-            c += 1;
         }
     }
     k
 }
 
-// 1 where both cells are wet, otherwise 0.
-fn both_wet(heights: &[u32], levels: &[u32], a: usize, b: usize) -> usize
+// Whether both cells are wet.
+fn both_wet(heights: &[u32], levels: &[u32], a: usize, b: usize) -> bool
     requires { (a < length heights.now) × (b < length heights.now) × (length levels.now ≡ length heights.now) }
-    ensures { (result ≡ cond (both_wet heights.now levels.now a b) 1 0) × (result ≤ 1) }
+    ensures { result ≡ both_wet heights.now levels.now a b }
 {
-    if levels[a] <= heights[a] {
-        return 0;
-    }
-    if levels[b] <= heights[b] {
-        return 0;
-    }
-    1
+    heights[a] < levels[a] && heights[b] < levels[b]
 }
 
 // The same of cell c and the one to its right, where `left` cells of its row are left, c among them.
-fn right_wet(w: usize, heights: &[u32], levels: &[u32], c: usize, left: usize) -> usize
+fn right_wet(w: usize, heights: &[u32], levels: &[u32], c: usize, left: usize) -> bool
     requires { Levelled w heights.now levels.now × (c < length heights.now) × (c % w + left ≡ w) }
-    ensures { (result ≡ cond (wet_side w heights.now levels.now 0 c) 1 0) × (result ≤ 1) }
+    ensures { result ≡ wet_side w heights.now levels.now 0 c }
 {
-    if left < 2 {
-        return 0;
-    }
-    both_wet(heights, levels, c, c + 1)
+    2 <= left && both_wet(heights, levels, c, c + 1)
 }
 
 // The same of cell c and the one below.
-fn below_wet(w: usize, heights: &[u32], levels: &[u32], c: usize) -> usize
+fn below_wet(w: usize, heights: &[u32], levels: &[u32], c: usize) -> bool
     requires { Levelled w heights.now levels.now × (c < length heights.now) }
-    ensures { (result ≡ cond (wet_side w heights.now levels.now 2 c) 1 0) × (result ≤ 1) }
+    ensures { result ≡ wet_side w heights.now levels.now 2 c }
 {
-    if heights.len() <= c + w {
-        return 0;
-    }
-    both_wet(heights, levels, c, c + w)
+    c + w < heights.len() && both_wet(heights, levels, c, c + w)
 }
 
 // How many cells of a row are left one cell on.
@@ -82,16 +66,14 @@ fn wet_pairs(w: usize, heights: &[u32], levels: &[u32], list: &mut [u16]) -> usi
 {
     let mut k = 0;
     let mut left = w;
-    let mut c = 0;
-    while c < heights.len() {
+    for c in 0..heights.len() {
         let right = right_wet(w, heights, levels, c, left);
         let below = below_wet(w, heights, levels, c);
         list[k] = (4 * c) as u16;
-        k += right;
+        k += usize::from(right);
         list[k] = (4 * c + 2) as u16;
-        k += below;
+        k += usize::from(below);
         left = next_left(w, left);
-        c += 1;
     }
     k
 }

@@ -11,8 +11,8 @@ ghost use Rattle.rules.specs.Land.{rule4};
 ghost use Rattle.rules.specs.Tile.{tile_land};
 
 use groups::{alone, find_cell, hang_cells};
-use kinds::Cell;
-use lists::least_u32;
+use kinds::{Cell, Numbered};
+use lists::fill;
 use pairs::{greater, height, lesser};
 
 // The higher of two cells, the first where they are of one height.
@@ -20,25 +20,11 @@ fn higher_of(heights: &[u32], a: Cell, b: Cell) -> Cell
     requires { (a.0 < length heights.now) × (b.0 < length heights.now) }
     ensures { (result.0 ≡ higher (at heights.now) a.0 b.0) × (result.0 < length heights.now) }
 {
-    if heights[a.0 as usize] < heights[b.0 as usize] {
+    if heights[a.index()] < heights[b.index()] {
         b
     } else {
         a
     }
-}
-
-// The lesser of two cells, by number.
-fn least_cell(a: Cell, b: Cell) -> Cell
-    ensures { result.0 ≡ min a.0 b.0 }
-{
-    if a.0 < b.0 { a } else { b }
-}
-
-// The greater of two cells, by number.
-fn most_cell(a: Cell, b: Cell) -> Cell
-    ensures { result.0 ≡ max a.0 b.0 }
-{
-    if a.0 < b.0 { b } else { a }
 }
 
 // A pair of height h joins the groups with the roots r and s: its higher cell is flagged where each has a lower cell.
@@ -57,14 +43,14 @@ fn flag_meeting(
     ensures { flags.new
         ≡ flags_met (at heights.now) a.0 b.0 lows.now r.0 s.0 flags.old }
 {
-    if h <= lows[r.0 as usize] {
+    if h <= lows[r.index()] {
         return;
     }
-    if h <= lows[s.0 as usize] {
+    if h <= lows[s.index()] {
         return;
     }
     let c = higher_of(heights, a, b);
-    flags[c.0 as usize] = 1;
+    flags[c.index()] = 1;
 }
 
 // The greater of two roots is hung under the lesser, at height h. The group that they make is as low as the lower of the two.
@@ -84,13 +70,13 @@ fn hang_roots(
         × (parents.new ≡ set parents.old (max r.0 s.0) (min r.0 s.0))
         × (joins.new ≡ set joins.old (max r.0 s.0) h) }
 {
-    let lo = least_cell(r, s);
-    let hi = most_cell(r, s);
+    let lo = r.min(s);
+    let hi = r.max(s);
     hang_cells(group, r, s);
-    let low = least_u32(lows[r.0 as usize], lows[s.0 as usize]);
-    lows[lo.0 as usize] = low;
-    parents[hi.0 as usize] = lo.0;
-    joins[hi.0 as usize] = h;
+    let low = lows[r.index()].min(lows[s.index()]);
+    lows[lo.index()] = low;
+    parents[hi.index()] = lo.0;
+    joins[hi.index()] = h;
 }
 
 // One pair more.
@@ -114,7 +100,7 @@ fn join_pair(
     let b = greater(w, p);
     let r = find_cell(group, a);
     let s = find_cell(group, b);
-    if r.0 == s.0 {
+    if r == s {
         return;
     }
     let h = height(w, heights, p);
@@ -141,14 +127,12 @@ fn join_pairs(
         → SoFar (tile_land rule4 w heights.now marks) (met_touches w list.now (length list.now))
         (lists_of group.new lows.new flags.new parents.new joins.new) }
 {
-    let mut i = 0;
-    while i < list.len() {
-        join_pair(w, heights, list[i], group, lows, flags, parents, joins);
-        i += 1;
+    for p in list {
+        join_pair(w, heights, *p, group, lows, flags, parents, joins);
     }
 }
 
-// No pair yet: no cell is hung or flagged, and each is the lowest of its own group. After c turns each list says so of the first c cells.
+// No pair yet: no cell is hung or flagged, and each is the lowest of its own group.
 fn begin(
     heights: &[u32],
     lows: &mut [u32],
@@ -163,14 +147,11 @@ fn begin(
         × (parents.new ≡ filled (λ c. c) (length heights.now) parents.old)
         × (joins.new ≡ filled (λ c. highest) (length heights.now) joins.old) }
 {
-    let mut c = 0;
-    while c < heights.len() {
-        lows[c] = heights[c];
-        flags[c] = 0;
-        parents[c] = c as u16;
-        joins[c] = 16_000_000;
-        c += 1;
-    }
+    let n = heights.len();
+    fill(lows, n, |c| heights[c]);
+    fill(flags, n, |_| 0);
+    fill(parents, n, |c| c as u16);
+    fill(joins, n, |_| 16_000_000);
 }
 
 // The whole pass, with a list of groups and of lows that are lent.

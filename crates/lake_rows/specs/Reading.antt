@@ -1,26 +1,39 @@
--- Lakes read out of a list of 64-bit numbers, two for each lake (`row_of` in crate lake_list): level, number of cells and least cell in
--- the first, the volume in the second. Each is reduced to its range, so that any list can be read.
+-- Lakes read out of the rows that they were listed into.
 -- Assumes nothing.
-use Rattle.std.specs.Prelude.{List, ℕ, ◌%◌, ◌*◌, ◌+◌, ◌/◌}
+use Rattle.std.specs.Prelude.{List, ℕ, get_or}
+use Rattle.lake_list.specs.Rows.{row_of}
 use Rattle.lake_rules.specs.Lakes.{Lake}
-use Rattle.lists.specs.Lists.{at, tab}
+use Rattle.lists.specs.Lists.{tab}
+use Rattle.lake_list.specs.declared.Row.{Row}
 
-abbrev pub level_in : List ℕ → ℕ → ℕ
-level_in rows i = at rows (2 * i) / 33554432 % 4294967296
+-- what stands past a list's end, for lookups
+abbrev pub no_row : Row
+no_row = row_of (record { level = 0; count = 0; volume = 0; least = 0 })
 
-abbrev pub count_in : List ℕ → ℕ → ℕ
-count_in rows i = at rows (2 * i) / 4096 % 8192
+-- row i
+abbrev pub row_at : List Row → ℕ → Row
+row_at rows i = get_or rows i no_row
 
-abbrev pub least_in : List ℕ → ℕ → ℕ
-least_in rows i = at rows (2 * i) % 4096
+abbrev pub level_in : List Row → ℕ → ℕ
+level_in rows i = (row_at rows i).level
 
-abbrev pub volume_in : List ℕ → ℕ → ℕ
-volume_in rows i = at rows (2 * i + 1)
+abbrev pub count_in : List Row → ℕ → ℕ
+count_in rows i = (row_at rows i).count
+
+abbrev pub least_in : List Row → ℕ → ℕ
+least_in rows i = (row_at rows i).least.0
+
+abbrev pub volume_in : List Row → ℕ → ℕ
+volume_in rows i = (row_at rows i).volume
+
+-- the lake of a row
+abbrev pub lake_in : Row → Lake
+lake_in row = record { level = row.level; count = row.count; volume = row.volume; least = row.least.0 }
 
 -- the lake of row i
-abbrev pub read_lake : List ℕ → ℕ → Lake
-read_lake rows i = record { level = level_in rows i; count = count_in rows i; volume = volume_in rows i; least = least_in rows i }
+abbrev pub read_lake : List Row → ℕ → Lake
+read_lake rows i = lake_in (row_at rows i)
 
 -- the lakes of the first n rows
-abbrev pub read_lakes : List ℕ → ℕ → List Lake
+abbrev pub read_lakes : List Row → ℕ → List Lake
 read_lakes rows n = tab n (read_lake rows)

@@ -2,7 +2,7 @@
 -- Assumes nothing.
 use mathlib.Core.List.{List}
 use mathlib.Core.Path.{refl}
-use Prim.Native.Nat.{ℕ, ◌*◌, ◌<◌, ◌≤◌}
+use Prim.Native.Nat.{ℕ, ◌<◌, ◌≤◌}
 use native.Mathlib.Omega.{arith}
 use lib.ListN.{length}
 use Rattle.ground.proofs.Acceptance.{good_few}
@@ -21,7 +21,9 @@ use Rattle.rules.specs.Ground.{cells_of, Ground}
 use Rattle.rules.specs.Land.{land4}
 use Rattle.rules.specs.Network.{lifted_network_of}
 use Rattle.grid.specs.declared.Neighbours.TheVariants.{Four}
-use Rattle.lake_list.specs.declared.Found.{Found}
+use Rattle.std.specs.Prelude.{Result}
+use Rattle.lake_list.specs.declared.Row.{Row}
+use Rattle.lake_list.specs.declared.TooDeep.{TooDeep}
 use Rattle.rules.specs.declared.Manner.TheVariants.{Carve}
 
 module _ (g : Ground) (G : Good g) where
@@ -37,7 +39,7 @@ module _ (g : Ground) (G : Good g) where
   unfolding lakes_on
   lakes_on_fit = lakes_fit (land4 g) (lifted_network_of g).levels levels-low
 
-  pub found_read : {found : Found} (rows : List ℕ) → 2 * cells_of g ≤ length rows → FoundIn (land4 g) (lifted_network_of g).levels found rows
+  pub found_read : {found : Result ℕ TooDeep} (rows : List Row) → cells_of g ≤ length rows → FoundIn (land4 g) (lifted_network_of g).levels found rows
       → ReadFound (too_deep_on g) (lakes_on g) found rows
   unfolding lakes_on too_deep_on
   found_read rows long F =
@@ -46,5 +48,5 @@ module _ (g : Ground) (G : Good g) where
         found_is = F.found_is;
         few = omega (arith, lakes_on_few);
         fit = fits_more few lakes_on_fit;
-        read = λ e. lakes_read (cells_of g) few rows (lakes_on g) lakes_on_fit (F.rows_are e);
+        read = λ e. lakes_read rows (lakes_on g) (F.rows_are e);
       }

@@ -15,5 +15,5 @@ pub tile-lakes-one : OneOutcome 3 tile-lakes-kinds.ps tile-lakes-kinds.r tile-la
 tile-lakes-one κs a p r r' e e' x y = found_one x y
 
 pub record_lakes-one : OneOutcome 2 record-lakes-kinds.ps record-lakes-kinds.r record-lakes.Asked record-lakes.Learnt
-    (λ κs a r e. rows_told r e.1.1.1.0.now)
+    (λ κs a r e. rows_told r e.1.1.0.now)
 record_lakes-one κs a p r r' e e' x y = found_one x y

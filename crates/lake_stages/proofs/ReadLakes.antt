@@ -2,7 +2,7 @@
 -- Assumes nothing.
 use mathlib.Core.List.{[], List, ◌∷◌}
 use mathlib.Core.Path.{ap, refl, subst, sym, ◌∙◌, ◌≡◌}
-use Prim.Native.Nat.{ℕ, ◌*◌, ◌≤◌}
+use Prim.Native.Nat.{ℕ, ◌≤◌}
 use native.Mathlib.Omega.{arith}
 use lib.ListN.{length}
 use Rattle.lake_list.specs.Rows.{found_of}
@@ -10,20 +10,21 @@ use Rattle.lake_rows.specs.Reading.{read_lakes}
 use Rattle.lake_rules.specs.Fits.{LakesFit}
 use Rattle.lake_rules.specs.Lakes.{Lake}
 use Rattle.lake_stages.specs.ReadFound.{ReadFound}
-use Rattle.lake_list.specs.declared.Found.{Found}
-use Rattle.lake_list.specs.declared.Found.TheVariants.{Lakes}
+use Rattle.std.specs.Prelude.{Ok, Result}
+use Rattle.lake_list.specs.declared.Row.{Row}
+use Rattle.lake_list.specs.declared.TooDeep.{TooDeep}
 
-pub record LakesRead (deep : List (List ℕ)) (ls : List Lake) (rows : List ℕ) (n : ℕ) : Type 0 where
+pub record LakesRead (deep : List (List ℕ)) (ls : List Lake) (rows : List Row) (n : ℕ) : Type 0 where
   pub none_deep : deep ≡ []
-  pub held : 2 * n ≤ length rows
+  pub held : n ≤ length rows
   pub are : read_lakes rows n ≡ ls
   pub fit : LakesFit 4096 (read_lakes rows n)
 
-pub found_count : (deep : List (List ℕ)) (ls : List Lake) {n : ℕ} → found_of deep ls ≡ Lakes n → (deep ≡ []) × (length ls ≡ n)
+pub found_count : (deep : List (List ℕ)) (ls : List Lake) {n : ℕ} → found_of deep ls ≡ Ok n → (deep ≡ []) × (length ls ≡ n)
 found_count [] ls e = (refl, (cc))
 found_count (s ∷ ss) ls e = absurd (let z : ◌≡◌ {A = ℕ} 0 1 = cc in omega arith)
 
-pub lakes_found : {deep : List (List ℕ)} {ls : List Lake} {found : Found} {rows : List ℕ} {n : ℕ} → ReadFound deep ls found rows → found ≡ Lakes n
+pub lakes_found : {deep : List (List ℕ)} {ls : List Lake} {found : Result ℕ TooDeep} {rows : List Row} {n : ℕ} → ReadFound deep ls found rows → found ≡ Ok n
     → LakesRead deep ls rows n
 lakes_found {deep} {ls} {found} {rows} {n} R e =
     let f = found_count deep ls (sym R.found_is ∙ e) in

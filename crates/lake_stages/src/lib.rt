@@ -13,7 +13,8 @@ ghost use Rattle.rules.specs.Tile.{LawfulTile, tile_land};
 ghost use Rattle.stages.specs.Linking.{Linked};
 
 use grid::Neighbours;
-use lake_list::{Found, list_lakes};
+use ground::Size;
+use lake_list::{Row, TooDeep, list_lakes};
 use record_stages::lift_record;
 use stages::link_sides;
 use walk::walk_links;
@@ -55,9 +56,9 @@ fn find_levels(w: usize, heights: &[u32], marks: &[u8], levels: &mut [u32])
 }
 
 // The lakes of a tile with an outlet, or that one is too deep. Work space: 16 KB, and that of the levels or of listing.
-pub fn tile_lakes(w: usize, heights: &[u32], marks: &[u8], rows: &mut [u64]) -> Found
+pub fn tile_lakes(w: usize, heights: &[u32], marks: &[u8], rows: &mut [Row]) -> Result<u16, TooDeep>
     requires lawful_tile { LawfulTile rule4 w heights.now marks.now }
-    requires heights_in_bounds { 2 * length heights.now ≤ length rows.old }
+    requires heights_in_bounds { length heights.now ≤ length rows.old }
     ensures { let L = tile_land rule4 w heights.now marks.now in
         FoundIn L (levels_on L) result rows.new }
 {
@@ -67,16 +68,16 @@ pub fn tile_lakes(w: usize, heights: &[u32], marks: &[u8], rows: &mut [u64]) -> 
     list_lakes(w, heights, &levels[..n], rows)
 }
 
-// The lakes of the ground in an accepted record of width by height cells, or that one is too deep. Work space: 16 KB, and that of a
+// The lakes of the ground in an accepted record of this size, or that one is too deep. Work space: 16 KB, and that of a
 // tile's lakes.
-pub fn record_lakes(bytes: &[u8], width: u16, height: u16, rows: &mut [u64]) -> Found
-    requires readable { Readable bytes.now width height }
-    requires width_in_bounds { 2 * (height * width) ≤ length rows.old }
-    ensures { let g = ground_in bytes.now width height in
+pub fn record_lakes(bytes: &[u8], size: Size, rows: &mut [Row]) -> Result<u16, TooDeep>
+    requires readable { Readable bytes.now size.width size.height }
+    requires width_in_bounds { size.height * size.width ≤ length rows.old }
+    ensures { let g = ground_in bytes.now size.width size.height in
         FoundIn (land4 g) (lifted_network_of g).levels result rows.new }
 {
-    let n = ground::cells(width, height);
-    let w = width as usize;
+    let n = ground::cells(size.width, size.height);
+    let w = size.width as usize;
     let from = 4 * n;
     let to = 5 * n;
     let mut lifted = [0u32; 4096];

@@ -9,6 +9,7 @@ use Prim.Native.Nat.{suc, zero, ℕ, ◌*◌, ◌+◌, ◌<◌, ◌≤◌}
 use native.Mathlib.Numerals.{add-one}
 use native.Mathlib.Omega.{arith}
 use lib.ListN.{length, length-append}
+use Rattle.lake_list.specs.declared.Row.{Row}
 use Rattle.lake_rows.specs.Reading.{read_lake, read_lakes}
 use Rattle.lake_rules.specs.Fits.{LakeFits, LakesFit}
 use Rattle.lake_rules.specs.Lakes.{Lake}
@@ -52,10 +53,10 @@ lines_fit (x ∷ xs) f =
     omega (arith, length-append (lake_line x) (flat lake_line xs))
 
 -- the lines of the first n rows
-abbrev pub lines : List ℕ → ℕ → List ℕ
+abbrev pub lines : List Row → ℕ → List ℕ
 lines rows n = flat lake_line (read_lakes rows n)
 
-pub lines_next : (rows : List ℕ) (n : ℕ) → lines rows n ++ lake_line (read_lake rows n) ≡ lines rows (n + 1)
+pub lines_next : (rows : List Row) (n : ℕ) → lines rows n ++ lake_line (read_lake rows n) ≡ lines rows (n + 1)
 lines_next rows n =
     ap (λ (z : List ℕ). lines rows n ++ z) (sym (append-nil (lake_line (read_lake rows n))))
     ∙ sym (flat_append lake_line (read_lakes rows n) (read_lake rows n ∷ []))
@@ -63,7 +64,7 @@ lines_next rows n =
     ∙ ap (lines rows) (sym (add-one n))
 
 -- there is room for one line more, where there is room for all
-pub lines-within : (rows : List ℕ) (i n : ℕ) → i < n → length (lines rows i) + length (lake_line (read_lake rows i)) ≤ length (lines rows n)
+pub lines-within : (rows : List Row) (i n : ℕ) → i < n → length (lines rows i) + length (lake_line (read_lake rows i)) ≤ length (lines rows n)
 lines-within rows i zero h = absurd (omega arith)
 lines-within rows i (suc n) h = go (lt_or_ge i n) (lines-within rows i n)
   where

@@ -10,6 +10,7 @@ ghost use Rattle.lists.specs.Lists.{flat};
 ghost use Rattle.text.specs.Writing.{Fits, Printed, Wrote};
 
 use kinds::Cell;
+use lake_list::Row;
 
 // The line of a lake: level, number of cells, volume, least cell; the level is lifted.
 fn write_lake(
@@ -31,8 +32,8 @@ fn write_lake(
 }
 
 // The line of the lake of row i.
-fn write_row(text: &mut [u8], from: usize, rows: &[u64], i: usize) -> usize
-    requires i_in_bounds { 2 * i + 1 < length rows.now }
+fn write_row(text: &mut [u8], from: usize, rows: &[Row], i: usize) -> usize
+    requires i_in_bounds { i < length rows.now }
     requires fits { Fits from (lake_line (read_lake rows.now i)) text.old }
     ensures { Wrote from (lake_line (read_lake rows.now i)) text.old text.new result }
 {
@@ -44,8 +45,8 @@ fn write_row(text: &mut [u8], from: usize, rows: &[u64], i: usize) -> usize
 }
 
 // The lines of the lakes of the first n rows.
-fn write_rows(text: &mut [u8], from: usize, n: usize, rows: &[u64]) -> usize
-    requires n_bound { (n ≤ 4096) × (2 * n ≤ length rows.now) }
+fn write_rows(text: &mut [u8], from: usize, n: usize, rows: &[Row]) -> usize
+    requires n_bound { (n ≤ 4096) × (n ≤ length rows.now) }
     requires fits { Fits from (flat lake_line (read_lakes rows.now n)) text.old }
     ensures { Wrote from (flat lake_line (read_lakes rows.now n)) text.old text.new result }
 {
@@ -67,8 +68,8 @@ fn write_count(text: &mut [u8], n: usize) -> usize
 }
 
 // The text of the lakes of the first n rows, and how many bytes it takes.
-pub fn write_lakes(text: &mut [u8], n: usize, rows: &[u64]) -> usize
-    requires n_bound { (n ≤ 4096) × (2 * n ≤ length rows.now) × LakesFit 4096 (read_lakes rows.now n) }
+pub fn write_lakes(text: &mut [u8], n: usize, rows: &[Row]) -> usize
+    requires n_bound { (n ≤ 4096) × (n ≤ length rows.now) × LakesFit 4096 (read_lakes rows.now n) }
     requires most_lakes_text_in_bounds { most_lakes_text ≤ length text.old }
     ensures { Printed (lakes_text (read_lakes rows.now n)) text.old text.new result }
 {

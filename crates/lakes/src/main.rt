@@ -11,23 +11,22 @@ ghost use Rattle.lakes.specs.Program.{ground_lakes_text, lakes_program_text};
 ghost use Rattle.record_stages.specs.Readable.{Readable};
 ghost use Rattle.text.specs.Writing.{Printed};
 
-use ground::Judged;
-use inputs::read_full;
-use lake_list::Found;
+use ground::Size;
+use lake_list::{NO_ROW, TooDeep};
 use std::io;
 use std::io::{Read, Write};
 
-// The text of the lakes of the ground in an accepted record of width by height cells. Work space: 64 KB, and that of listing the lakes.
-fn print_lakes(bytes: &[u8], width: u16, height: u16, text: &mut [u8]) -> usize
-    requires readable { Readable bytes.now width height }
+// The text of the lakes of the ground in an accepted record of this size. Work space: 64 KB, and that of listing the lakes.
+fn print_lakes(bytes: &[u8], size: Size, text: &mut [u8]) -> usize
+    requires readable { Readable bytes.now size.width size.height }
     requires most_lakes_text_in_bounds { most_lakes_text ≤ length text.old }
-    ensures { Printed (ground_lakes_text (ground_in bytes.now width height)) text.old text.new result }
+    ensures { Printed (ground_lakes_text (ground_in bytes.now size.width size.height)) text.old text.new result }
 {
-    let mut rows = [0u64; 8192];
-    let found = lake_stages::record_lakes(bytes, width, height, &mut rows);
+    let mut rows = [NO_ROW; 4096];
+    let found = lake_stages::record_lakes(bytes, size, &mut rows);
     match found {
-        Found::Lakes(count) => lake_text::write_lakes(text, count as usize, &rows),
-        Found::TooDeep(cell) => text::write_refused(text, 10, cell.0),
+        Ok(count) => lake_text::write_lakes(text, count as usize, &rows),
+        Err(TooDeep(cell)) => text::write_refused(text, 10, cell.0),
     }
 }
 
@@ -36,10 +35,9 @@ fn lakes_text(bytes: &[u8], text: &mut [u8]) -> usize
     requires { most_lakes_text ≤ length text.old }
     ensures { Printed (lakes_program_text bytes.now) text.old text.new result }
 {
-    let judged = record_text::judge_input(bytes);
-    match judged {
-        Judged::Accepted(width, height) => print_lakes(bytes, width, height, text),
-        Judged::Refused(why) => record_text::write_refusal(text, why),
+    match record_text::judge_input(bytes) {
+        Ok(size) => print_lakes(bytes, size, text),
+        Err(why) => record_text::write_refusal(text, why),
     }
 }
 
@@ -48,11 +46,7 @@ fn lakes_text(bytes: &[u8], text: &mut [u8]) -> usize
 fn answer<R: Read, W: Write>(input: &mut R, output: &mut W) -> io::Result<()>
     ensures { OnOk result (IfSome (R.remaining input.old) (λ s. Appends (W.contents output.old) (W.contents output.new) (lakes_program_text s))) }
 {
-    let mut bytes = [0u8; 28689];
-    let mut text = [0u8; 131072];
-    let got = read_full(input, &mut bytes)?;
-    let len = lakes_text(&bytes[..got], &mut text);
-    output.write_all(&text[..len])
+    inputs::answer::<R, W, _, 28689, 131_072>(input, output, lakes_text)
 }
 
 fn main(rt: HostRuntime) -> io::Result<()> {

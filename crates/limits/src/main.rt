@@ -2,9 +2,11 @@
 // sample F both ways, the traces T1 to T5 and the largest budget. All run through the public calls; the file stdout has what they print.
 #![tactic(auto)]
 
+ghost use Rattle.std.specs.Prelude.{◌≤◌};
+
 use ground::Judged;
 use std::io;
-use trace::TraceAnswer;
+use trace::{TraceEnd, TraceRefusal};
 
 // A word and two numbers on a line.
 fn line(rt: &impl Print, word: &str, first: u32, second: u32) -> io::Result<()> {
@@ -16,8 +18,8 @@ fn say(rt: &impl Print, word: &str, judged: Judged) -> io::Result<()> {
     line(
         rt,
         word,
-        ground::number(judged) as u32,
-        ground::place(judged) as u32,
+        u32::from(ground::number(judged)),
+        u32::from(ground::place(judged)),
     )
 }
 
@@ -27,28 +29,19 @@ fn cell(rt: &impl Print, word: &str, height: i32) -> io::Result<()> {
     say(rt, word, ground::check_lists(1, 1, &heights, &[1], &[0]))
 }
 
-// Level ground of 63, 64 and 65 cells, all outlets, with all the water that there can be.
-fn of_63(rt: &impl Print, word: &str, width: u16, height: u16) -> io::Result<()> {
+// Level ground of N cells, all outlets, with all the water that there can be.
+fn level_ground<const N: usize>(
+    rt: &impl Print,
+    word: &str,
+    width: u16,
+    height: u16,
+) -> io::Result<()>
+    requires { N ≤ 65 }
+{
     say(
         rt,
         word,
-        ground::check_lists(width, height, &[0i32; 63], &[1u8; 63], &[65535u16; 63]),
-    )
-}
-
-fn of_64(rt: &impl Print, word: &str, width: u16, height: u16) -> io::Result<()> {
-    say(
-        rt,
-        word,
-        ground::check_lists(width, height, &[0i32; 64], &[1u8; 64], &[65535u16; 64]),
-    )
-}
-
-fn of_65(rt: &impl Print, word: &str, width: u16, height: u16) -> io::Result<()> {
-    say(
-        rt,
-        word,
-        ground::check_lists(width, height, &[0i32; 65], &[1u8; 65], &[65535u16; 65]),
+        ground::check_lists(width, height, &[0i32; N], &[1u8; N], &[65535u16; N]),
     )
 }
 
@@ -68,16 +61,16 @@ fn extremes(rt: &impl Print) -> io::Result<()> {
 
 // The ends of width and height.
 fn sizes(rt: &impl Print) -> io::Result<()> {
-    of_64(rt, "64 by 1: ", 64, 1)?;
-    of_65(rt, "65 by 1: ", 65, 1)?;
-    of_64(rt, "1 by 64: ", 1, 64)?;
-    of_65(rt, "1 by 65: ", 1, 65)
+    level_ground::<64>(rt, "64 by 1: ", 64, 1)?;
+    level_ground::<65>(rt, "65 by 1: ", 65, 1)?;
+    level_ground::<64>(rt, "1 by 64: ", 1, 64)?;
+    level_ground::<65>(rt, "1 by 65: ", 1, 65)
 }
 
 // Lists and records that are too short or too long.
 fn lengths(rt: &impl Print) -> io::Result<()> {
-    of_63(rt, "8 by 8, 63 entries: ", 8, 8)?;
-    of_65(rt, "8 by 8, 65 entries: ", 8, 8)?;
+    level_ground::<63>(rt, "8 by 8, 63 entries: ", 8, 8)?;
+    level_ground::<65>(rt, "8 by 8, 65 entries: ", 8, 8)?;
     say(rt, "15 bytes: ", ground::check_record(&[0u8; 15]))?;
     say(rt, "16 bytes: ", ground::check_record(&[0u8; 16]))
 }
@@ -112,13 +105,13 @@ fn both_ways(rt: &impl Print) -> io::Result<()> {
 }
 
 // The answer in document 01's words and numbers.
-fn say_trace(rt: &impl Print, answer: TraceAnswer) -> io::Result<()> {
+fn say_trace(rt: &impl Print, answer: Result<TraceEnd, TraceRefusal>) -> io::Result<()> {
     match answer {
-        TraceAnswer::Outlet(cell, steps) => line(rt, "outlet ", cell.0 as u32, steps),
-        TraceAnswer::Stopped(cell, steps) => line(rt, "stopped ", cell.0 as u32, steps),
-        TraceAnswer::BadList => line(rt, "refused ", 2, 0),
-        TraceAnswer::BadCell => line(rt, "refused ", 8, 0),
-        TraceAnswer::BadEntry(cell) => line(rt, "refused ", 9, cell.0 as u32),
+        Ok(TraceEnd::Outlet(cell, steps)) => line(rt, "outlet ", u32::from(cell.0), steps),
+        Ok(TraceEnd::Stopped(cell, steps)) => line(rt, "stopped ", u32::from(cell.0), steps),
+        Err(TraceRefusal::BadList) => line(rt, "refused ", 2, 0),
+        Err(TraceRefusal::BadCell) => line(rt, "refused ", 8, 0),
+        Err(TraceRefusal::BadEntry(cell)) => line(rt, "refused ", 9, u32::from(cell.0)),
     }
 }
 

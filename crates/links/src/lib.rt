@@ -25,11 +25,7 @@ fn own_weights(weights: &[u8], n: usize, links: &mut [u8])
     requires { (n ≤ length weights.now) × (n ≤ length links.old) × (n ≤ 4096) }
     ensures { links.new ≡ filled (at weights.now) n links.old }
 {
-    let mut c = 0;
-    while c < n {
-        links[c] = weights[c];
-        c += 1;
-    }
+    links[..n].copy_from_slice(&weights[..n]);
 }
 
 // Adds to each cell whose neighbour has this weight. The neighbour is so many places after the cell, or before it; the other count is 0.
@@ -48,10 +44,8 @@ fn add(
     requires fits { Fits (added_to after before n weights.now weight more) n links.old }
     ensures { Added (added_to after before n weights.now weight more) links.old links.new }
 {
-    let mut c = after + before;
-    while c < n {
-        links[c - after] = links[c - after] + more_if(weights[c - before], weight, more);
-        c += 1;
+    for c in after + before..n {
+        links[c - after] += more_if(weights[c - before], weight, more);
     }
 }
 
@@ -90,27 +84,15 @@ pub fn link_leads(neighbours: Neighbours, w: usize, weights: &[u8], n: usize, li
     }
 }
 
-// The lesser cell's bit: that of the greater one's place.
-fn lesser_bit(p: u16) -> u8
-    ensures { result ≡ lesser_bit p }
+// The bits of a pair: the lesser cell's is that of the greater one's place, the greater's that of the opposite place.
+fn bits(p: u16) -> (u8, u8)
+    ensures { (result.0 ≡ lesser_bit p) × (result.1 ≡ greater_bit p) }
 {
     match p % 4 {
-        0 => 16,
-        1 => 32,
-        2 => 64,
-        _ => 128,
-    }
-}
-
-// The greater cell's bit: that of the opposite place.
-fn greater_bit(p: u16) -> u8
-    ensures { result ≡ greater_bit p }
-{
-    match p % 4 {
-        0 => 8,
-        1 => 4,
-        2 => 2,
-        _ => 1,
+        0 => (16, 8),
+        1 => (32, 4),
+        2 => (64, 2),
+        _ => (128, 1),
     }
 }
 
@@ -134,17 +116,16 @@ fn link_pair(w: usize, p: u16, links: &mut [u8])
 {
     let a = lesser(p);
     let b = greater(w, p);
-    link_two(links, a, lesser_bit(p), b, greater_bit(p));
+    let (forth, back) = bits(p);
+    link_two(links, a, forth, b, back);
 }
 
-// Links the two cells of every pair: in the loop the pairs before place i are linked.
+// Links the two cells of every pair: between turns the pairs so far are linked.
 pub fn link_pairs(w: usize, pairs: &[u16], links: &mut [u8])
     requires { (n : ℕ) × (E : ℕ → ℕ → Bool) × Addable w n E pairs.now links.old }
     ensures { PairsLinked w pairs.now links.old links.new }
 {
-    let mut i = 0;
-    while i < pairs.len() {
-        link_pair(w, pairs[i], links);
-        i += 1;
+    for &p in pairs {
+        link_pair(w, p, links);
     }
 }

@@ -21,7 +21,7 @@ use Rattle.lists.proofs.Tests.{is, isnt, Known, known, lt_or_ge}
 use Rattle.lists.specs.Lists.{at, fold, stretch, ◌∈◌}
 use Rattle.lowest.proofs.LeastLevels.{least_mask}
 use Rattle.lowest.proofs.Margins.{entry_stands, mask_bit, stretch-entry}
-use Rattle.lowest.specs.Lowest.{entry_at, has_bit, key_of, Levelled, lowest_key, lowest_land, place_key, weight_at, Windowed}
+use Rattle.lowest.specs.Lowest.{entry_at, has_bit, key_of, Levelled, lowest_key, lowest_land, place_key, weight_at}
 use Rattle.rules.specs.Ground.{is_outlet}
 use Rattle.grid.specs.declared.Neighbours.{Neighbours}
 
@@ -60,9 +60,6 @@ module _ {N : Neighbours} {w : ℕ} {masks levels marks : List ℕ} (A : Levelle
     -- what the mask says of a place
     told : (p : ℕ) → p ∈ around → has_bit (at masks c) (bit_of around p) ≡ joins_at w n (beside (places_by N) w) c p
     told p m = ap (λ (k : ℕ). has_bit k (bit_of around p)) (A.neighbours c on) ∙ mask_bit w n (beside (places_by N) w) c p m
-
-    pub windowed : Windowed levels w (c + 65)
-    windowed = let narrow = A.grid.narrow in let room = A.margin in record { above = omega arith; below = omega arith }
 
     -- the keys by entries and by the cells that are taken for the places
     abbrev by_entry : ℕ → ℕ

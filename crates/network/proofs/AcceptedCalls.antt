@@ -12,8 +12,8 @@ use Rattle.rules.specs.Ground.{cells_of, Ground}
 use Rattle.rules.specs.Network.{Network, network_by}
 use Rattle.rules.specs.SixLists.{first_of, Full}
 use Rattle.grid.specs.declared.Neighbours.{Neighbours}
-use Rattle.ground.specs.declared.Judged.TheVariants.{Accepted}
 use Rattle.rules.specs.declared.Manner.{Manner}
+use Rattle.ground.specs.Judge.{Accepted}
 
 module _ (N : Neighbours) (M : Manner) (g : Ground) (before : Network ℤ) {w h : ℕ} {after : Network ℤ} (o : OutcomeBy N M g before (Accepted w h) after) where
   -- the ground is good, and the answer gives its size

@@ -14,8 +14,8 @@ use Rattle.rules.specs.Left.{LeftDemand3}
 use Rattle.rules.specs.LeftTrace.{LeftTraced}
 use Rattle.rules.specs.Network.{Network}
 use Rattle.grid.specs.declared.Neighbours.{Neighbours}
-use Rattle.ground.specs.declared.Judged.TheVariants.{Accepted}
 use Rattle.rules.specs.declared.Manner.{Manner}
+use Rattle.ground.specs.Judge.{Accepted}
 
 -- any outcome of a tile that is accepted
 module _ (N : Neighbours) (M : Manner) (g : Ground) (before : Network ℤ) {w h : ℕ} {after : Network ℤ} (o : OutcomeBy N M g before (Accepted w h) after) where

@@ -30,8 +30,8 @@ use Rattle.rules.specs.Network.{level, lifted_network, Network, network_by, netw
 use Rattle.rules.specs.SixLists.{first_of}
 use Rattle.rules.specs.Way.{Drains}
 use Rattle.grid.specs.declared.Neighbours.{Neighbours}
-use Rattle.ground.specs.declared.Judged.TheVariants.{Accepted}
 use Rattle.rules.specs.declared.Manner.{Manner}
+use Rattle.ground.specs.Judge.{Accepted}
 
 module _ (R : Rule) (g : Ground) (G : Good g) (r : List ℕ) (D : Drains (land_of R g) r)
     (whole : (c : ℕ) → c < cells_of g → (land_of R g).solid c ≡ true) where

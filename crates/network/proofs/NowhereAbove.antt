@@ -23,8 +23,8 @@ use Rattle.rules.specs.Network.{level, lifted_network, lifted_network_in, Networ
 use Rattle.rules.specs.SixLists.{first_of}
 use Rattle.grid.specs.declared.Neighbours.{Neighbours}
 use Rattle.grid.specs.declared.Neighbours.TheVariants.{Eight, Four}
-use Rattle.ground.specs.declared.Judged.TheVariants.{Accepted}
 use Rattle.rules.specs.declared.Manner.{Manner}
+use Rattle.ground.specs.Judge.{Accepted}
 
 -- a level that stands in the lists
 module _ (N : Neighbours) (M : Manner) (g : Ground) (s : Network ℤ) (e : first_of (cells_of g) s ≡ network_by N M g) where

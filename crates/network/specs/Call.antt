@@ -1,7 +1,7 @@
 -- What a network call allows: its answer, and what it leaves in the six lent lists.
 -- Assumes nothing.
-use Rattle.std.specs.Prelude.{Bool, ℕ, ℤ}
-use Rattle.ground.specs.Judge.{judge_lists}
+use Rattle.std.specs.Prelude.{Bool, Err, ℕ, Ok, ℤ}
+use Rattle.ground.specs.Judge.{judge_lists, Judged}
 use Rattle.ground.specs.Rooms.{room_for}
 use Rattle.lists.specs.Allowed.{Allowed}
 use Rattle.rules.specs.Ground.{Ground}
@@ -9,15 +9,13 @@ use Rattle.rules.specs.Network.{Network, network_by}
 use Rattle.rules.specs.SixLists.{onto, shortest}
 use Rattle.grid.specs.declared.Neighbours.{Neighbours}
 use Rattle.grid.specs.declared.Neighbours.TheVariants.{Four}
-use Rattle.ground.specs.declared.Judged.{Judged}
-use Rattle.ground.specs.declared.Judged.TheVariants.{Accepted, Refused}
 use Rattle.rules.specs.declared.Manner.{Manner}
 use Rattle.rules.specs.declared.Manner.TheVariants.{Carve}
 
 -- after the call: the network where the tile is accepted, and all as it was where it is refused
 abbrev pub left : Judged → (net before : Network ℤ) → Network ℤ
-left (Accepted w h) net before = onto net before
-left (Refused why) net before = before
+left (Ok size) net before = onto net before
+left (Err why) net before = before
 
 -- 3: six lent lists, an entry for each cell: the shortest decides
 abbrev pub network_holds : Network ℤ → ℕ → Bool

@@ -2,30 +2,43 @@
 // Heights are lifted on the way in and levels dropped on the way out. specs/Call.antt says what is left in each list.
 #![tactic(auto)]
 
-ghost use Rattle.std.specs.Prelude.{map, ◌≡◌, ◌*◌, ◌≤◌, length, take};
+ghost use Rattle.std.specs.Prelude.{get_or, map, ◌≡◌, ◌*◌, ◌<◌, ◌≤◌, length, pos, take, true};
 ghost use Rattle.ground.specs.Good.{Good};
 ghost use Rattle.ground.specs.Record.{ground_of_lists};
-ghost use Rattle.lists.specs.Lists.{overwrite};
+ghost use Rattle.lists.specs.Lists.{at, overwrite};
 ghost use Rattle.network.specs.Call.{Outcome, OutcomeBy};
 ghost use Rattle.network.specs.Lifting.{InRange};
-ghost use Rattle.rules.specs.Ground.{dropped, lifted, Lifted};
+ghost use Rattle.rules.specs.Ground.{dropped, height_in_range, lifted, Lifted};
 ghost use Rattle.rules.specs.Network.{network_by};
 ghost use Rattle.rules.specs.SixLists.{Holds, onto, shortest, six_lists};
 
 use grid::Neighbours;
 use ground::{Judged, Room};
-use lists::least;
 use rules::Manner;
 use stages::work_out;
+
+// One height of a list, lifted.
+fn lift_of(heights: &[i32], i: usize) -> u32
+    requires { (i < length heights.now) × (height_in_range (get_or heights.now i (pos 0)) ≡ true) }
+    ensures { result ≡ lifted (get_or heights.now i (pos 0)) }
+{
+    heights::lift(heights[i])
+}
 
 // The heights of a list, lifted, at the start of a lent one.
 pub fn lift_heights(heights: &[i32], out: &mut [u32])
     requires { (length heights.now ≤ length out.old) × InRange heights.now }
     ensures { out.new ≡ overwrite (map lifted heights.now) out.old }
 {
-    for i in 0..heights.len() {
-        out[i] = heights::lift(heights[i]);
-    }
+    lists::fill(out, heights.len(), |i| lift_of(heights, i));
+}
+
+// One lifted level of a list, dropped.
+fn drop_of(levels: &[u32], i: usize) -> i32
+    requires { (i < length levels.now) × (at levels.now i ≤ 16000000) }
+    ensures { result ≡ dropped (at levels.now i) }
+{
+    heights::drop_lift(levels[i])
 }
 
 // The first n of lifted levels, dropped, at the start of a lent list.
@@ -33,9 +46,7 @@ fn drop_levels(n: usize, levels: &[u32], out: &mut [i32])
     requires { (n ≤ length levels.now) × (n ≤ length out.old) × Lifted (take n levels.now) }
     ensures { out.new ≡ overwrite (map dropped (take n levels.now)) out.old }
 {
-    for i in 0..n {
-        out[i] = heights::drop_lift(levels[i]);
-    }
+    lists::fill(out, n, |i| drop_of(levels, i));
 }
 
 // The length of the shortest of the six lent lists.
@@ -51,11 +62,10 @@ fn shortest_length(
         (six_lists receivers.now basins.now order.now levels.now drainage.now
         wet.now) }
 {
-    let water = least(levels.len(), least(drainage.len(), wet.len()));
-    least(
-        receivers.len(),
-        least(basins.len(), least(order.len(), water)),
-    )
+    let water = levels.len().min(drainage.len().min(wet.len()));
+    receivers
+        .len()
+        .min(basins.len().min(order.len().min(water)))
 }
 
 // The network of an accepted ground. Its own work space is 32 KB, and that of the stages comes to it.
@@ -83,7 +93,7 @@ fn fill(
         wet.old) }
 {
     let n = ground::cells(width, height);
-    let w = width as usize;
+    let w = usize::from(width);
     let mut lifted = [0u32; 4096];
     let mut lifted_levels = [0u32; 4096];
     lift_heights(heights, &mut lifted);
@@ -135,17 +145,12 @@ pub fn network_over(
         fixed: 0,
         len: shortest_length(receivers, basins, order, levels, drainage, wet),
     };
-    let judged = ground::judge_lists(width, height, heights, marks, water, room);
-    match judged {
-        Judged::Refused(why) => Judged::Refused(why),
-        Judged::Accepted(w, h) => {
-            fill(
-                neighbours, manner, width, height, heights, marks, water, receivers, basins, order,
-                levels, drainage, wet,
-            );
-            Judged::Accepted(w, h)
-        }
-    }
+    let size = ground::judge_lists(width, height, heights, marks, water, room)?;
+    fill(
+        neighbours, manner, width, height, heights, marks, water, receivers, basins, order, levels,
+        drainage, wet,
+    );
+    Ok(size)
 }
 
 // The same with document 01's 4 neighbours, carved.

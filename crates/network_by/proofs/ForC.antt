@@ -6,19 +6,31 @@ use mathlib.Core.Path.{ap, refl, subst, sym, ◌∙◌, ◌≡◌}
 use Prim.Native.Nat.{ℕ, ◌≤◌}
 use native.Mathlib.Omega.{arith}
 use Rattle.network_by.specs.Calls.{counted_judgement, network_answer_to, RecordCounted, RecordCountedFromC}
-use Rattle.network_by.specs.Counted.{asked_for, judged_by, left_by}
+use Rattle.network_by.specs.Counted.{asked_for, Asking, judged_by, left_by, NetworkAnswer, Tile}
 use Rattle.network_by.specs.ReadAnswer.{CountedReadBack, network_length}
+use Rattle.network_by.proofs.Counts.{ground_asked, none_asked}
+use Rattle.network_record.specs.ReadAnswer.{length_of, ReadBack}
+use Rattle.ground.specs.Judge.{Judged}
+use Rattle.std.specs.Prelude.{Err, Ok}
 use Rattle.network_record.proofs.Answers.{answer_read, lengths_short}
 use Rattle.network_record.specs.RecordCall.{judgement, left_record_by}
-use Rattle.network_by.specs.declared.Asked.{Asked}
-use Rattle.network_by.specs.declared.Asked.TheVariants.{For, NoCount, NoManner}
-use Rattle.network_by.specs.declared.NetworkAnswer.{NetworkAnswer}
+use Rattle.network_by.specs.declared.NetworkRefusal.TheVariants.{BadCount, BadManner, Ground}
+
+-- a tile's answer is read as its judgement is
+tile_length : (j : Judged) → network_length (Tile j) ≡ length_of j
+tile_length (Ok size) = refl
+tile_length (Err why) = refl
+
+read_tile : (j : Judged) → ReadBack j → CountedReadBack (Tile j)
+read_tile (Ok size) back = record { number_back = back.number_back; place_back = back.place_back; length_back = back.length_back }
+read_tile (Err why) back = record { number_back = back.number_back; place_back = back.place_back; length_back = back.length_back }
 
 module _ (count manner : ℕ) (ground lent : List ℕ) where
-  short : (a : Asked) → network_length (judged_by a (judgement ground lent)) ≤ 61468
-  short NoCount = omega arith
-  short NoManner = omega arith
-  short (For N M) = lengths_short ground lent
+  short : (a : Asking) → network_length (judged_by a (judgement ground lent)) ≤ 61468
+  short (Err BadCount) = omega arith
+  short (Err BadManner) = omega arith
+  short (Err (Ground why)) = omega arith
+  short (Ok a) = rw (tile_length (judgement ground lent)) (lengths_short ground lent)
 
   module _ {r : NetworkAnswer} {after : List ℕ} (o : RecordCounted count manner ground lent r after) where
     pub counted_packable : network_length r ≤ 61468
@@ -33,11 +45,10 @@ module _ (count manner : ℕ) (ground lent : List ℕ) where
 
   -- what is read from the answer for C
   pub counted_read : CountedReadBack (counted_judgement count manner ground lent)
-  counted_read = go (asked_for count manner)
+  counted_read = go (asked_for count manner) refl
     where
-      go : (a : Asked) → CountedReadBack (judged_by a (judgement ground lent))
-      go NoCount = record { number_back = refl; place_back = refl; length_back = refl }
-      go NoManner = record { number_back = refl; place_back = refl; length_back = refl }
-      go (For N M) =
-          let back = answer_read ground lent in
-          record { number_back = back.number_back; place_back = back.place_back; length_back = back.length_back }
+      go : (a : Asking) → asked_for count manner ≡ a → CountedReadBack (judged_by a (judgement ground lent))
+      go (Err BadCount) e = record { number_back = refl; place_back = refl; length_back = refl }
+      go (Err BadManner) e = record { number_back = refl; place_back = refl; length_back = refl }
+      go (Err (Ground why)) e = absurd (let n = sym (ap ground_asked e) ∙ none_asked count manner in omega (arith, n))
+      go (Ok a) e = read_tile (judgement ground lent) (answer_read ground lent)

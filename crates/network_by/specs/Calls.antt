@@ -1,15 +1,13 @@
 -- What the calls with a count (W-203) and a manner (W-205) allow: from lists to lists, from record to record, and that for C.
 -- Assumes nothing.
-use Rattle.std.specs.Prelude.{List, ℕ, ◌*◌, ◌+◌, ℤ}
+use Rattle.std.specs.Prelude.{Err, List, ℕ, ◌*◌, ◌+◌, Ok, ℤ}
 use Rattle.ground.specs.Judge.{judge_lists}
 use Rattle.lists.specs.Allowed.{Allowed}
 use Rattle.network.specs.Call.{left, network_holds}
-use Rattle.network_by.specs.Counted.{asked_for, Counted, judged_by, left_by, network_number, network_place}
+use Rattle.network_by.specs.Counted.{asked_for, Counted, judged_by, left_by, NetworkAnswer, why_number, why_place}
 use Rattle.network_record.specs.RecordCall.{answer_to, judgement, left_record_by}
 use Rattle.rules.specs.Ground.{Ground}
 use Rattle.rules.specs.Network.{Network, network_by}
-use Rattle.network_by.specs.declared.NetworkAnswer.{NetworkAnswer}
-use Rattle.network_by.specs.declared.NetworkAnswer.TheVariants.{BadCount, BadManner, Tile}
 
 -- six lent lists
 abbrev pub ListsCounted : (count manner : ℕ) (g : Ground) (before : Network ℤ) (r : NetworkAnswer) (after : Network ℤ) → Type 0
@@ -21,9 +19,8 @@ RecordCounted count manner bytes before = Counted count manner (judgement bytes 
 
 -- the answer as one number, for C: the length written, or the refusal's number times 65,536 plus its place
 abbrev pub network_answer_to : NetworkAnswer → ℕ
-network_answer_to BadCount = network_number BadCount * 65536 + network_place BadCount
-network_answer_to BadManner = network_number BadManner * 65536 + network_place BadManner
-network_answer_to (Tile j) = answer_to j
+network_answer_to (Ok size) = answer_to (Ok size)
+network_answer_to (Err why) = why_number why * 65536 + why_place why
 
 module _ (count manner : ℕ) (bytes before : List ℕ) where
   -- the judgement of count and manner, and then the record's

@@ -2,9 +2,8 @@
 -- first.
 -- Assumes nothing.
 use Rattle.std.specs.Prelude.{refl, ◌≡◌}
-use Rattle.network_by.specs.Counted.{asked_for}
+use Rattle.network_by.specs.Counted.{asked_for, For, NoCount, NoManner}
 use Rattle.grid.specs.declared.Neighbours.TheVariants.{Eight, Four}
-use Rattle.network_by.specs.declared.Asked.TheVariants.{For, NoCount, NoManner}
 use Rattle.rules.specs.declared.Manner.TheVariants.{Carve, Sheet}
 
 four : (asked_for 4 1 ≡ For Four Carve) × (asked_for 4 2 ≡ For Four Sheet)

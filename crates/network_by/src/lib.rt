@@ -5,62 +5,106 @@
 ghost use Rattle.std.specs.Prelude.{◌≡◌, ◌≤◌};
 ghost use Rattle.ground.specs.Record.{ground_of_lists};
 ghost use Rattle.network_by.specs.Calls.{ListsCounted, network_answer_to, RecordCounted};
-ghost use Rattle.network_by.specs.Counted.{asked_for, manner_for, network_number, network_place};
+ghost use Rattle.network_by.specs.Counted.{asked_for, network_number, network_place, why_number, why_place};
 ghost use Rattle.network_by.specs.ReadAnswer.{network_length};
+ghost use Rattle.network_by.specs.declared.NetworkRefusal.TheVariants.{BadCount, BadManner, Ground};
 ghost use Rattle.rules.specs.SixLists.{six_lists};
 
-use grid::Neighbours;
-use ground::Judged;
+use grid::{Neighbours, UnknownCount};
+use ground::{Refusal, Size};
 use network::network_over;
 use network_record::record_over;
-use rules::Manner;
+use rules::{Manner, UnknownManner};
+use std::error::Error;
+use std::fmt;
 
-// What a count and a manner ask for.
-#[derive(Clone, Copy)]
-pub enum Asked {
-    // 4 or 8 neighbours, carved or as a sheet.
-    For(Neighbours, Manner),
-    // The count asks for nothing known.
-    NoCount,
-    // The count does, and the manner doesn't.
-    NoManner,
+// What a count and a manner ask for: 4 or 8 neighbours, carved or as a sheet.
+#[derive(Clone, Copy, Debug, PartialEq, Eq)]
+pub struct Asked {
+    pub neighbours: Neighbours,
+    pub manner: Manner,
 }
 
-// The answer to a call with a count and a manner; `network_number` and `network_place` of specs/Counted.antt give the numbers.
-#[derive(Clone, Copy)]
-pub enum NetworkAnswer {
+// Why a call with a count and a manner is refused; `network_number` and `network_place` of specs/Counted.antt give the numbers.
+#[derive(Clone, Copy, Debug, PartialEq, Eq)]
+pub enum NetworkRefusal {
     // 11: the count is neither 4 nor 8.
     BadCount,
-    // 12: the manner is neither 1 nor 2.
+    // 12: the count is, and the manner is neither 1 nor 2.
     BadManner,
-    // The tile is judged, and worked out where that accepts it.
-    Tile(Judged),
+    // The tile is judged, and that refuses it.
+    Ground(Refusal),
 }
 
-// The manner that is named, with the neighbours asked for. All 32 bits count: 65,537 is not 1.
-fn in_manner(neighbours: Neighbours, manner: u32) -> Asked
-    ensures { result ≡ manner_for neighbours manner }
-{
-    if manner == 1 {
-        Asked::For(neighbours, Manner::Carve)
-    } else if manner == 2 {
-        Asked::For(neighbours, Manner::Sheet)
-    } else {
-        Asked::NoManner
+impl From<UnknownCount> for NetworkRefusal {
+    ghost from_gives = { λ _ why. why ≡ BadCount };
+
+    fn from(_count: UnknownCount) -> NetworkRefusal {
+        NetworkRefusal::BadCount
     }
 }
 
-// What a count and a manner ask for; the count is judged first, and whole: 65,540 is not 4.
-pub fn asked_for(count: u32, manner: u32) -> Asked
+impl From<UnknownManner> for NetworkRefusal {
+    ghost from_gives = { λ _ why. why ≡ BadManner };
+
+    fn from(_manner: UnknownManner) -> NetworkRefusal {
+        NetworkRefusal::BadManner
+    }
+}
+
+impl From<Refusal> for NetworkRefusal {
+    ghost from_gives = { λ r why. why ≡ Ground r };
+
+    fn from(why: Refusal) -> NetworkRefusal {
+        NetworkRefusal::Ground(why)
+    }
+}
+
+impl fmt::Display for NetworkRefusal {
+    fn fmt<W: fmt::Write>(&self, f: &mut fmt::Formatter<W>) -> fmt::Result {
+        match self {
+            NetworkRefusal::BadCount => write!(f, "the count of neighbours is neither 4 nor 8"),
+            NetworkRefusal::BadManner => write!(f, "the manner is neither 1, carve, nor 2, sheet"),
+            NetworkRefusal::Ground(why) => write!(f, "{}", why),
+        }
+    }
+}
+
+impl Error for NetworkRefusal {}
+
+impl NetworkRefusal {
+    // The number of a refusal.
+    fn number(self) -> u16
+        ensures { result ≡ why_number self }
+    {
+        match self {
+            NetworkRefusal::BadCount => 11,
+            NetworkRefusal::BadManner => 12,
+            NetworkRefusal::Ground(why) => ground::number(Err(why)),
+        }
+    }
+
+    // The place of a refusal.
+    fn place(self) -> u16
+        ensures { result ≡ why_place self }
+    {
+        match self {
+            NetworkRefusal::BadCount | NetworkRefusal::BadManner => 0,
+            NetworkRefusal::Ground(why) => ground::place(Err(why)),
+        }
+    }
+}
+
+// The answer to a call with a count and a manner: the size of the tile where it is accepted, or why it is refused.
+pub type NetworkAnswer = Result<Size, NetworkRefusal>;
+
+// What a count and a manner ask for; the count is judged first, and each whole: 65,540 is not 4, and 65,537 is not 1.
+pub fn asked_for(count: u32, manner: u32) -> Result<Asked, NetworkRefusal>
     ensures { result ≡ asked_for count manner }
 {
-    if count == 4 {
-        in_manner(Neighbours::Four, manner)
-    } else if count == 8 {
-        in_manner(Neighbours::Eight, manner)
-    } else {
-        Asked::NoCount
-    }
+    let neighbours = Neighbours::try_from(count)?;
+    let manner = Manner::try_from(manner)?;
+    Ok(Asked { neighbours, manner })
 }
 
 // The number given back for an answer: 0 where the tile is accepted.
@@ -68,9 +112,8 @@ pub fn network_number(answer: NetworkAnswer) -> u16
     ensures { result ≡ network_number answer }
 {
     match answer {
-        NetworkAnswer::BadCount => 11,
-        NetworkAnswer::BadManner => 12,
-        NetworkAnswer::Tile(judged) => ground::number(judged),
+        Ok(_) => 0,
+        Err(why) => why.number(),
     }
 }
 
@@ -79,9 +122,8 @@ pub fn network_place(answer: NetworkAnswer) -> u16
     ensures { result ≡ network_place answer }
 {
     match answer {
-        NetworkAnswer::BadCount => 0,
-        NetworkAnswer::BadManner => 0,
-        NetworkAnswer::Tile(judged) => ground::place(judged),
+        Ok(_) => 0,
+        Err(why) => why.place(),
     }
 }
 
@@ -111,15 +153,23 @@ pub fn network_of_lists(
         wet.new in
         ListsCounted count manner g before result after }
 {
-    let asked = asked_for(count, manner);
-    match asked {
-        Asked::NoCount => NetworkAnswer::BadCount,
-        Asked::NoManner => NetworkAnswer::BadManner,
-        Asked::For(neighbours, named) => NetworkAnswer::Tile(network_over(
-            neighbours, named, width, height, heights, marks, water, receivers, basins, order,
-            levels, drainage, wet,
-        )),
-    }
+    let asked = asked_for(count, manner)?;
+    let size = network_over(
+        asked.neighbours,
+        asked.manner,
+        width,
+        height,
+        heights,
+        marks,
+        water,
+        receivers,
+        basins,
+        order,
+        levels,
+        drainage,
+        wet,
+    )?;
+    Ok(size)
 }
 
 // The network record of a ground record, at the start of a lent one. 11 comes first, then 12, then what `record_over` refuses. A refusal alters
@@ -132,14 +182,9 @@ pub fn network_of_record(
 ) -> NetworkAnswer
     ensures { RecordCounted count manner ground.now network.old result network.new }
 {
-    let asked = asked_for(count, manner);
-    match asked {
-        Asked::NoCount => NetworkAnswer::BadCount,
-        Asked::NoManner => NetworkAnswer::BadManner,
-        Asked::For(neighbours, named) => {
-            NetworkAnswer::Tile(record_over(neighbours, named, ground, network))
-        }
-    }
+    let asked = asked_for(count, manner)?;
+    let size = record_over(asked.neighbours, asked.manner, ground, network)?;
+    Ok(size)
 }
 
 // The answer as one number, for C: the length written, 43 to 61,468, or for a refusal its number times 65,536 plus its place.
@@ -148,8 +193,7 @@ pub fn answer_for_c(answer: NetworkAnswer) -> u32
     ensures { result ≡ network_answer_to answer }
 {
     match answer {
-        NetworkAnswer::BadCount => 11 * 65536,
-        NetworkAnswer::BadManner => 12 * 65536,
-        NetworkAnswer::Tile(judged) => network_record::answer_for_c(judged),
+        Ok(size) => network_record::answer_for_c(Ok(size)),
+        Err(why) => u32::from(why.number()) * 65536 + u32::from(why.place()),
     }
 }

@@ -2,37 +2,28 @@
 -- Assumes nothing.
 use mathlib.Core.List.{[], append_assoc, List, map, ◌++◌, ◌∷◌}
 use mathlib.Core.Path.{ap, refl, ◌∙◌, ◌≡◌}
-use Prim.Native.Nat.{suc, ℕ, ◌*◌, ◌+◌, ◌<◌, ◌≤◌}
+use Prim.Native.Nat.{suc, ℕ, ◌*◌}
 use native.Mathlib.Omega.{arith}
 use lib.IntN.{ℤ}
 use lib.ListN.{length, length-append, length-map, length-take, take}
 use Rattle.heights.proofs.Heights.{dropped_bits-dropped}
-use Rattle.heights.specs.Bits.{bits_of, dropped_bits}
-use Rattle.lists.proofs.Map.{map_at}
+use Rattle.heights.specs.Bits.{bits_of, dropped_bits, height_section}
 use Rattle.lists.proofs.Overwrite.{overwrite-next}
-use Rattle.lists.specs.Lists.{at, overwrite, stored}
-use Rattle.sections.proofs.Sections.{length-section_of, section_next}
-use Rattle.sections.specs.LittleEndian.{bytes_of, section_filled}
+use Rattle.lists.specs.Lists.{flat, overwrite, stored}
+use Rattle.sections.proofs.Sections.{length-section_of}
+use Rattle.sections.specs.LittleEndian.{bytes_of}
 use Rattle.network_bytes.specs.NetworkRecord.{distances, flow_sections, network_bytes, network_record, network_trailer}
 use Rattle.network_bytes.specs.NetworkRecord.{water_sections, Writable}
 use Rattle.rules.specs.Ground.{dropped, Lifted}
 use Rattle.rules.specs.Network.{drop_levels, Network}
 use Rattle.rules.specs.SixLists.{first_of, Full}
 
--- lifted levels written by their bits are the section of the signed ones
-pub levels-dropped : (l : List ℕ) → Lifted l → map dropped_bits l ≡ map bits_of (map dropped l)
-levels-dropped [] f = refl
-levels-dropped (x ∷ xs) f =
+-- lifted levels that are written one by one, by their bits, are the section of the signed ones
+pub levels_written : (l : List ℕ) → Lifted l → flat (λ x. bytes_of 4 (dropped_bits x)) l ≡ height_section (map dropped l)
+levels_written [] f = refl
+levels_written (x ∷ xs) f =
     let a : dropped_bits x ≡ bits_of (dropped x) = dropped_bits-dropped x (f 0 (omega arith)) in
-    let b : map dropped_bits xs ≡ map bits_of (map dropped xs) = levels-dropped xs (λ k h. f (suc k) (omega arith)) in
-    cc
-
--- a turn of the loop that fills a section of levels
-pub levels-next : {l : List ℕ} (levels old : List ℕ) (i : ℕ) → i < length levels → 4 * i + 4 ≤ length old
-    → l ≡ stored (4 * i) (bytes_of 4 (dropped_bits (at levels i))) (section_filled 4 (map dropped_bits levels) old i)
-    → l ≡ section_filled 4 (map dropped_bits levels) old (i + 1)
-levels-next levels old i h k e =
-    section_next 4 (map dropped_bits levels) old i (rw length-map h) k (rw (map_at dropped_bits levels i 0 0 h) e)
+    rw (a, levels_written xs (λ k h. f (suc k) (omega arith)))
 
 pub length-distances : (n : ℕ) → length (distances n) ≡ 24
 unfolding distances

@@ -4,8 +4,8 @@
 
 ghost use Rattle.std.specs.Prelude.{map, ◌≡◌, ◌*◌, ◌+◌, ◌≤◌, length, take};
 ghost use Rattle.heights.specs.Bits.{dropped_bits, height_section};
-ghost use Rattle.lists.specs.Lists.{overwrite, stored};
-ghost use Rattle.sections.specs.LittleEndian.{section_of};
+ghost use Rattle.lists.specs.Lists.{flat, overwrite, stored};
+ghost use Rattle.sections.specs.LittleEndian.{bytes_of};
 ghost use Rattle.network_bytes.specs.NetworkRecord.{distances, flow_sections, network_record};
 ghost use Rattle.network_bytes.specs.NetworkRecord.{network_trailer, water_sections, Writable};
 ghost use Rattle.rules.specs.Ground.{dropped, Lifted};
@@ -19,16 +19,16 @@ fn cells(width: u16, height: u16) -> u32
     requires { height * width ≤ 4096 }
     ensures { (result ≡ height * width) × (result ≤ 4096) }
 {
-    height as u32 * width as u32
+    u32::from(height) * u32::from(width)
 }
 
-// All levels of a list, lifted, into a part that holds just them.
+// All levels of a list, lifted, into a part that holds just them. After i turns it has the first i levels.
 fn fill_levels(part: &mut [u8], levels: &[u32])
     requires { length part.old ≡ 4 * length levels.now }
-    ensures { part.new ≡ section_of 4 (map dropped_bits levels.now) }
+    ensures { part.new ≡ flat (λ x. bytes_of 4 (dropped_bits x)) levels.now }
 {
     for i in 0..levels.len() {
-        sections::write_u32(part, 4 * i, drop_bits(levels[i]));
+        sections::write(part, 4 * i, drop_bits(levels[i]));
     }
 }
 
@@ -49,9 +49,9 @@ fn write_flow(n: usize, receivers: &[u16], basins: &[u16], order: &[u16], bytes:
         ≡ overwrite (flow_sections (take n receivers.now) (take n basins.now) (take n order.now))
         bytes.old }
 {
-    sections::write_section_u16(bytes, 0, &receivers[..n]);
-    sections::write_section_u16(bytes, 2 * n, &basins[..n]);
-    sections::write_section_u16(bytes, 4 * n, &order[..n]);
+    sections::write_section(bytes, 0, &receivers[..n]);
+    sections::write_section(bytes, 2 * n, &basins[..n]);
+    sections::write_section(bytes, 4 * n, &order[..n]);
 }
 
 // Levels, drainage and wet: the other three, from index 6N on.
@@ -63,8 +63,8 @@ fn write_water(n: usize, levels: &[u32], drainage: &[u32], wet: &[u8], bytes: &m
         bytes.old }
 {
     write_section_levels(bytes, 6 * n, &levels[..n]);
-    sections::write_section_u32(bytes, 10 * n, &drainage[..n]);
-    sections::write_section_u8(bytes, 14 * n, &wet[..n]);
+    sections::write_section(bytes, 10 * n, &drainage[..n]);
+    sections::write_section(bytes, 14 * n, &wet[..n]);
 }
 
 // The six distances back from the trailer, from index `from` on.
@@ -72,12 +72,12 @@ fn write_distances(bytes: &mut [u8], from: usize, n: u32)
     requires { (from + 24 ≤ length bytes.old) × (n ≤ 4096) }
     ensures { bytes.new ≡ stored from (distances n) bytes.old }
 {
-    sections::write_u32(bytes, from, 15 * n);
-    sections::write_u32(bytes, from + 4, 13 * n);
-    sections::write_u32(bytes, from + 8, 11 * n);
-    sections::write_u32(bytes, from + 12, 9 * n);
-    sections::write_u32(bytes, from + 16, 5 * n);
-    sections::write_u32(bytes, from + 20, n);
+    sections::write(bytes, from, 15 * n);
+    sections::write(bytes, from + 4, 13 * n);
+    sections::write(bytes, from + 8, 11 * n);
+    sections::write(bytes, from + 12, 9 * n);
+    sections::write(bytes, from + 16, 5 * n);
+    sections::write(bytes, from + 20, n);
 }
 
 // The trailer from index `from` on.
@@ -85,8 +85,8 @@ fn write_trailer(bytes: &mut [u8], from: usize, width: u16, height: u16)
     requires { (from + 28 ≤ length bytes.old) × (height * width ≤ 4096) }
     ensures { bytes.new ≡ stored from (network_trailer width height) bytes.old }
 {
-    sections::write_u16(bytes, from, width);
-    sections::write_u16(bytes, from + 2, height);
+    sections::write(bytes, from, width);
+    sections::write(bytes, from + 2, height);
     write_distances(bytes, from + 4, cells(width, height));
 }
 

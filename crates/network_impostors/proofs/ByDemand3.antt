@@ -18,7 +18,7 @@ use Rattle.rules.specs.Left.{LeftDemand3}
 use Rattle.rules.specs.Network.{drainage, lifted_network, Network, network_of, outlets}
 use Rattle.rules.specs.Samples.{ground_e}
 use Rattle.grid.specs.declared.Neighbours.TheVariants.{Four}
-use Rattle.ground.specs.declared.Judged.{Judged}
+use Rattle.ground.specs.Judge.{Judged}
 
 -- following a cell that is its own receiver never leaves it, so that no outlet is reached unless it is one
 own-not_followed : (L : Land) (r : List ℕ) (c : ℕ) → L.outlet c ≡ false → at r c ≡ c → Followed L r c → ⊥

@@ -13,17 +13,17 @@ use Rattle.rules.specs.Ground.{cells_of, Ground}
 use Rattle.rules.specs.Network.{Network}
 use Rattle.rules.specs.SixLists.{Holds}
 use Rattle.grid.specs.declared.Neighbours.TheVariants.{Four}
-use Rattle.ground.specs.declared.Judged.{Judged}
-use Rattle.ground.specs.declared.Judged.TheVariants.{Accepted, Refused}
 use Rattle.rules.specs.declared.Manner.TheVariants.{Carve}
+use Rattle.ground.specs.Judge.{Judged}
+use Rattle.std.specs.Prelude.{Err, Ok}
 
 module _ (g : Ground) (before : Network ℤ) {drawn : Network ℤ} where
   -- each list holds as many entries as are written over, which are at most 4,096
   pub drawn_holds : (r : Judged) → Outcome g before r drawn → Holds (accepted_cells r) drawn
-  drawn_holds (Accepted w h) o =
+  drawn_holds (Ok size) o =
       subst (λ (n : ℕ). Holds n drawn) (sym (call_cells Four Carve g before o))
       (first_of_holds (cells_of g) drawn (call_network Four Carve g before o) (call_full Four Carve g before o))
-  drawn_holds (Refused why) o =
+  drawn_holds (Err why) o =
       record {
         receivers_hold = omega arith;
         basins_hold = omega arith;
@@ -34,5 +34,5 @@ module _ (g : Ground) (before : Network ℤ) {drawn : Network ℤ} where
       }
 
   pub drawn_few : (r : Judged) → Outcome g before r drawn → accepted_cells r ≤ 4096
-  drawn_few (Accepted w h) o = rw (call_cells Four Carve g before o) (good_few g (call_accepted Four Carve g before o).good)
-  drawn_few (Refused why) o = omega arith
+  drawn_few (Ok size) o = rw (call_cells Four Carve g before o) (good_few g (call_accepted Four Carve g before o).good)
+  drawn_few (Err why) o = omega arith

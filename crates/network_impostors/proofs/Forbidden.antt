@@ -22,7 +22,7 @@ use Rattle.rules.specs.Passes.{chosen, crossing_height, crossings, crossings_at,
 use Rattle.rules.specs.Passes.{same_basins}
 use Rattle.rules.specs.Samples.{E_right, ground_a, ground_e, network_d, network_e}
 use Rattle.rules.specs.SixLists.{onto}
-use Rattle.ground.specs.declared.Judged.{Judged}
+use Rattle.ground.specs.Judge.{Judged}
 
 -- demand 1: sample A is accepted, and not refused with 6
 pub refuses_every_tile : (r : Judged) (after : Network ℤ) → RefusesEveryTile ground_a (zeros 1) r after

@@ -13,8 +13,7 @@ use Rattle.rules.specs.Ground.{Ground}
 use Rattle.rules.specs.Network.{Network}
 use Rattle.rules.specs.Samples.{ground_e}
 use Rattle.rules.specs.SixLists.{onto, six_lists}
-use Rattle.ground.specs.declared.Judged.{Judged}
-use Rattle.ground.specs.declared.Judged.TheVariants.{Accepted}
+use Rattle.ground.specs.Judge.{Judged, Accepted}
 
 -- six lists of n zeros are lent
 abbrev pub zeros : ℕ → Network ℤ

@@ -1,15 +1,13 @@
 -- What each impostor of the network call does, on every input: what `Outcome` says of the real call, but for one thing.
 -- Assumes nothing.
-use Rattle.std.specs.Prelude.{Bool, cond, false, ◌&&◌, ℕ, ◌*◌, eqb, pos, ℤ}
-use Rattle.ground.specs.Judge.{judge_lists}
+use Rattle.std.specs.Prelude.{Bool, cond, Err, false, ◌&&◌, ℕ, ◌*◌, eqb, Ok, pos, ℤ}
+use Rattle.ground.specs.Judge.{judge_lists, Judged, Refused}
 use Rattle.lists.specs.Lists.{tab}
 use Rattle.network.specs.Call.{Draws, network_holds}
 use Rattle.rules.specs.Ground.{cells_of, Ground}
 use Rattle.rules.specs.Network.{network, Network}
 use Rattle.rules.specs.Samples.{network_d}
 use Rattle.rules.specs.SixLists.{six_lists}
-use Rattle.ground.specs.declared.Judged.{Judged}
-use Rattle.ground.specs.declared.Judged.TheVariants.{Accepted, Refused}
 use Rattle.ground.specs.declared.Refusal.TheVariants.{NoOutlet}
 
 -- it refuses every tile with 6, which is right for a tile without an outlet, and leaves what that answer leaves: all as it was
@@ -38,10 +36,10 @@ zero_levels g =
 
 -- what they ask of the answer: N where it accepts, and 0 where it refuses
 abbrev pub accepted_cells : Judged → ℕ
-accepted_cells (Accepted w h) = h * w
-accepted_cells (Refused why) = 0
+accepted_cells (Ok size) = size.height * size.width
+accepted_cells (Err why) = 0
 
 -- whether it accepts 3 by 3 cells
 abbrev pub accepted_three_by_three : Judged → Bool
-accepted_three_by_three (Accepted w h) = eqb w 3 && eqb h 3
-accepted_three_by_three (Refused why) = false
+accepted_three_by_three (Ok size) = eqb size.width 3 && eqb size.height 3
+accepted_three_by_three (Err why) = false

@@ -9,8 +9,8 @@ pub fn accepted_cells(judged: Judged) -> usize
     ensures { result ≡ accepted_cells judged }
 {
     match judged {
-        Judged::Accepted(w, h) => ground::cells(w, h),
-        Judged::Refused(_) => 0,
+        Ok(size) => ground::cells(size.width, size.height),
+        Err(_) => 0,
     }
 }
 
@@ -19,7 +19,7 @@ pub fn accepted_three_by_three(judged: Judged) -> bool
     ensures { result ≡ accepted_three_by_three judged }
 {
     match judged {
-        Judged::Accepted(w, h) => w == 3 && h == 3,
-        Judged::Refused(_) => false,
+        Ok(size) => size.width == 3 && size.height == 3,
+        Err(_) => false,
     }
 }

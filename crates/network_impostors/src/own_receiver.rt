@@ -1,22 +1,10 @@
 // An impostor: the right answer, and then each cell of an accepted tile is made its own receiver.
-ghost use Rattle.std.specs.Prelude.{◌≡◌, ◌≤◌, length};
 ghost use Rattle.ground.specs.Record.{ground_of_lists};
-ghost use Rattle.lists.specs.Lists.{filled};
 ghost use Rattle.network_impostors.specs.Impostors.{LeavesWrong, own_receivers};
 ghost use Rattle.rules.specs.SixLists.{six_lists};
 
 use crate::answers::accepted_cells;
 use ground::Judged;
-
-// The first n entries are their own indices.
-fn own_indices(n: usize, list: &mut [u16])
-    requires { (n ≤ length list.old) × (n ≤ 4096) }
-    ensures { list.new ≡ filled (λ k. k) n list.old }
-{
-    for k in 0..n {
-        list[k] = k as u16;
-    }
-}
 
 // Right but for the receivers.
 pub fn network(
@@ -44,6 +32,6 @@ pub fn network(
     let judged = network::network(
         width, height, heights, marks, water, receivers, basins, order, levels, drainage, wet,
     );
-    own_indices(accepted_cells(judged), receivers);
+    lists::fill(receivers, accepted_cells(judged), |k| k as u16);
     judged
 }

@@ -28,5 +28,5 @@ pub fn network(
         wet.new in
         RefusesEveryTile g before result after }
 {
-    Judged::Refused(Refusal::NoOutlet)
+    Err(Refusal::NoOutlet)
 }

@@ -29,7 +29,7 @@ fn sample_d(
     let rain = [1u16; 9];
     corners[0] = 1;
     corners[8] = 1;
-    network::network(
+    let _ = network::network(
         3, 3, &level, &corners, &rain, receivers, basins, order, levels, drainage, wet,
     );
 }

@@ -1,4 +1,4 @@
--- Any outcome of the record call, as an enum and for C, that accepts a ground record of bytes: what the answer tells of the ground, and
+-- Any outcome of the record call, as a result and for C, that accepts a ground record of bytes: what the answer tells of the ground, and
 -- that the six lists in the record that it leaves are the network.
 -- Assumes nothing.
 use mathlib.Core.List.{List}
@@ -21,9 +21,9 @@ use Rattle.rules.specs.Ground.{cells_of, Ground}
 use Rattle.rules.specs.Network.{Network, network_by}
 use Rattle.rules.specs.SixLists.{first_of}
 use Rattle.grid.specs.declared.Neighbours.{Neighbours}
-use Rattle.ground.specs.declared.Judged.{Judged}
-use Rattle.ground.specs.declared.Judged.TheVariants.{Accepted, Refused}
 use Rattle.rules.specs.declared.Manner.{Manner}
+use Rattle.ground.specs.Judge.{Accepted, Judged}
+use Rattle.std.specs.Prelude.{Err, Ok}
 
 -- with the width and the height that it answers
 module _ (N : Neighbours) (M : Manner) (ground lent : List ℕ) (bytes : Below 256 ground) {w h : ℕ} {after : List ℕ}
@@ -54,8 +54,8 @@ module _ (N : Neighbours) (M : Manner) (ground lent : List ℕ) (bytes : Below 2
     (o : CalledFromCBy N M ground lent answer after) (length-answered : answer < 65536) where
   -- the C call's outcome is one of the record call, which accepts
   accepts : (j : Judged) → judgement ground lent ≡ j → (w : ℕ) × (h : ℕ) × CalledBy N M ground lent (Accepted w h) after
-  accepts (Accepted w h) e = (w, h, record { answer = sym e; lists = o.lists ∙ ap (left_record_by N M ground lent) e })
-  accepts (Refused why) e =
+  accepts (Ok size) e = (size.width, size.height, record { answer = sym e; lists = o.lists ∙ ap (left_record_by N M ground lent) e })
+  accepts (Err why) e =
       let a = o.answer in
       let b = refused_answer ground lent e in
       absurd (omega arith)

@@ -14,7 +14,7 @@ use Rattle.ground.proofs.Acceptance.{accepted_length, good_few, record_accepted}
 use Rattle.ground.proofs.Numbers.{refusal_number_lem}
 use Rattle.ground.proofs.Places.{judge_record-place, judge_record_room}
 use Rattle.ground.specs.Good.{Good}
-use Rattle.ground.specs.Judge.{number_of, place_of, refusal_number, refusal_place}
+use Rattle.ground.specs.Judge.{Accepted, Judged, number_of, place_of, refusal_number, refusal_place, Refused}
 use Rattle.ground.specs.Record.{ground_of_record}
 use Rattle.network.proofs.Networks.{good_full}
 use Rattle.network_bytes.proofs.Laws.{length-network_record}
@@ -23,11 +23,10 @@ use Rattle.rules.specs.Ground.{cells_of, Ground}
 use Rattle.rules.specs.Network.{network_by}
 use Rattle.grid.specs.declared.Neighbours.{Neighbours}
 use Rattle.grid.specs.declared.Neighbours.TheVariants.{Four}
-use Rattle.ground.specs.declared.Judged.{Judged}
-use Rattle.ground.specs.declared.Judged.TheVariants.{Accepted, Refused}
 use Rattle.ground.specs.declared.Refusal.{Refusal}
 use Rattle.rules.specs.declared.Manner.{Manner}
 use Rattle.rules.specs.declared.Manner.TheVariants.{Carve}
+use Rattle.std.specs.Prelude.{Err, Ok}
 
 module _ (N : Neighbours) (M : Manner) (g : Ground) (G : Good g) where
   -- the network record of an accepted tile has 15N + 28 bytes
@@ -81,8 +80,8 @@ module _ (ground lent : List ℕ) where
 
 -- no length is above 61,468
 short_length : (j : Judged) → ((w h : ℕ) → j ≡ Accepted w h → answer_to j ≤ 61468) → length_of j ≤ 61468
-short_length (Accepted w h) short = short w h refl
-short_length (Refused why) short = omega arith
+short_length (Ok size) short = short size.width size.height refl
+short_length (Err why) short = omega arith
 
 pub lengths_short : (ground lent : List ℕ) → length_of (judgement ground lent) ≤ 61468
 lengths_short ground lent = short_length (judgement ground lent) (λ w h e. (accepted_sizes ground lent e).1)
@@ -95,11 +94,12 @@ never_meet ground lent ground' lent' a r =
 
 -- lengths and places below 65,536 can be had back from an answer, and so can numbers
 read_back : (j : Judged) → ((w h : ℕ) → j ≡ Accepted w h → answer_to j < 65536) → place_of j < 65536 → ReadBack j
-read_back (Accepted w h) small low =
-    let l : network_bytes (h * w) < 65536 = small w h refl in
-    let z : network_bytes (h * w) / 65536 ≡ 0 = omega arith in
+read_back (Ok size) small low =
+    let n = size.height * size.width in
+    let l : network_bytes n < 65536 = small size.width size.height refl in
+    let z : network_bytes n / 65536 ≡ 0 = omega arith in
     record { number_back = z; place_back = rw z; length_back = rw z }
-read_back (Refused why) small low =
+read_back (Err why) small low =
     let p : refusal_place why < 65536 = low in
     let n = (refusal_number_lem why).0 in
     let z : (refusal_number why * 65536 + refusal_place why) / 65536 ≡ refusal_number why = omega arith in

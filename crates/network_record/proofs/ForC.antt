@@ -7,8 +7,8 @@ use Rattle.network_record.proofs.Answers.{lengths_short}
 use Rattle.network_record.specs.ReadAnswer.{length_of}
 use Rattle.network_record.specs.RecordCall.{answer_to, CalledBy, CalledFromCBy, left_record_by}
 use Rattle.grid.specs.declared.Neighbours.{Neighbours}
-use Rattle.ground.specs.declared.Judged.{Judged}
 use Rattle.rules.specs.declared.Manner.{Manner}
+use Rattle.ground.specs.Judge.{Judged}
 
 module _ (N : Neighbours) (M : Manner) (ground lent : List ℕ) {j : Judged} {after : List ℕ} (o : CalledBy N M ground lent j after) where
   pub packable : length_of j ≤ 61468

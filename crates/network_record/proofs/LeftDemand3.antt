@@ -1,4 +1,4 @@
--- Demand 3 holds of the six lists in the lent record that the record call, as an enum and for C, leaves of any accepted ground record; and
+-- Demand 3 holds of the six lists in the lent record that the record call, as a result and for C, leaves of any accepted ground record; and
 -- a trace along the receivers there reaches the outlet.
 -- Assumes nothing.
 use mathlib.Core.List.{List}
@@ -16,8 +16,8 @@ use Rattle.rules.specs.Ground.{Ground}
 use Rattle.rules.specs.Left.{LeftDemand3}
 use Rattle.rules.specs.LeftTrace.{LeftTraced}
 use Rattle.grid.specs.declared.Neighbours.{Neighbours}
-use Rattle.ground.specs.declared.Judged.TheVariants.{Accepted}
 use Rattle.rules.specs.declared.Manner.{Manner}
+use Rattle.ground.specs.Judge.{Accepted}
 
 -- any outcome of the record call that accepts a ground record of bytes, with the width and the height that it answers
 module _ (N : Neighbours) (M : Manner) (ground lent : List ℕ) (bytes : Below 256 ground) {w h : ℕ} {after : List ℕ}

@@ -1,4 +1,4 @@
--- Rule 10 in the signed numbers of the records: it holds of the six lists in the lent record that the record call, as an enum and for C,
+-- Rule 10 in the signed numbers of the records: it holds of the six lists in the lent record that the record call, as a result and for C,
 -- leaves of any accepted ground record.
 -- Assumes nothing.
 use mathlib.Core.List.{List}
@@ -11,8 +11,8 @@ use Rattle.network.proofs.LeftWet.{good_wet}
 use Rattle.network_bytes.specs.ReadNetwork.{network_in}
 use Rattle.rules.specs.LeftWet.{LeftWet}
 use Rattle.grid.specs.declared.Neighbours.{Neighbours}
-use Rattle.ground.specs.declared.Judged.TheVariants.{Accepted}
 use Rattle.rules.specs.declared.Manner.{Manner}
+use Rattle.ground.specs.Judge.{Accepted}
 
 pub record_call_wet : (N : Neighbours) (M : Manner) (ground lent : List ℕ) → Below 256 ground → {w h : ℕ} {after : List ℕ}
     → CalledBy N M ground lent (Accepted w h) after → LeftWet (ground_of_record ground) (network_in after w h)

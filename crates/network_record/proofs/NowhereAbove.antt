@@ -11,8 +11,8 @@ use Rattle.network_record.proofs.AcceptedCalls.{record_call_accepted, record_cal
 use Rattle.network_record.specs.RecordCall.{CalledBy}
 use Rattle.rules.specs.MoreNeighbours.{NowhereAbove}
 use Rattle.grid.specs.declared.Neighbours.TheVariants.{Eight, Four}
-use Rattle.ground.specs.declared.Judged.TheVariants.{Accepted}
 use Rattle.rules.specs.declared.Manner.{Manner}
+use Rattle.ground.specs.Judge.{Accepted}
 
 pub record_call_nowhere_above : (M M' : Manner) (ground lent lent' : List ℕ) → Below 256 ground → {w h w' h' : ℕ} {after after' : List ℕ}
     → CalledBy Eight M ground lent (Accepted w h) after → CalledBy Four M' ground lent' (Accepted w' h') after'

@@ -1,11 +1,9 @@
 -- What include/askvimur.h reads from the answer of the C call.
 -- Assumes nothing.
-use Rattle.std.specs.Prelude.{cond, ◌≡◌, ℕ, ◌%◌, ◌*◌, ◌/◌, eqb}
+use Rattle.std.specs.Prelude.{cond, Err, Ok, ◌≡◌, ℕ, ◌%◌, ◌*◌, ◌/◌, eqb}
 use Rattle.network_record.specs.RecordCall.{answer_to}
-use Rattle.ground.specs.Judge.{number_of, place_of}
+use Rattle.ground.specs.Judge.{Judged, number_of, place_of}
 use Rattle.network_bytes.specs.NetworkRecord.{network_bytes}
-use Rattle.ground.specs.declared.Judged.{Judged}
-use Rattle.ground.specs.declared.Judged.TheVariants.{Accepted, Refused}
 
 -- the number, 0 for an accepted ground
 abbrev pub number_read : ℕ → ℕ
@@ -21,8 +19,8 @@ length_read answer = cond (eqb (number_read answer) 0) answer 0
 
 -- the length written for a judgement
 abbrev pub length_of : Judged → ℕ
-length_of (Accepted w h) = network_bytes (h * w)
-length_of (Refused why) = 0
+length_of (Ok size) = network_bytes (size.height * size.width)
+length_of (Err why) = 0
 
 -- what is read from the answer to a judgement is what was judged
 pub record ReadBack (judged : Judged) : Type 0 where

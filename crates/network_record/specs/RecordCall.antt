@@ -1,8 +1,8 @@
 -- Document 01, "Numbers given back": what the record call gives back and leaves, over the neighbours and in the
 -- manner asked for.
 -- Assumes nothing.
-use Rattle.std.specs.Prelude.{Bool, List, ℕ, ◌*◌, ◌+◌, length}
-use Rattle.ground.specs.Judge.{judge_record, leaves, refusal_number, refusal_place}
+use Rattle.std.specs.Prelude.{Bool, Err, List, Ok, ℕ, ◌*◌, ◌+◌, length}
+use Rattle.ground.specs.Judge.{judge_record, Judged, leaves, refusal_number, refusal_place}
 use Rattle.ground.specs.Record.{ground_of_record}
 use Rattle.ground.specs.Rooms.{room_for}
 use Rattle.lists.specs.Allowed.{Allowed}
@@ -10,8 +10,6 @@ use Rattle.network_bytes.specs.NetworkRecord.{network_bytes, network_record}
 use Rattle.rules.specs.Ground.{Ground}
 use Rattle.rules.specs.Network.{network_by}
 use Rattle.grid.specs.declared.Neighbours.{Neighbours}
-use Rattle.ground.specs.declared.Judged.{Judged}
-use Rattle.ground.specs.declared.Judged.TheVariants.{Accepted, Refused}
 use Rattle.rules.specs.declared.Manner.{Manner}
 
 -- the network record of a ground
@@ -24,8 +22,8 @@ room_of out = room_for 15 28 (length out)
 
 -- the answer: the length of the record, or the refusal's number times 65,536 plus its place
 abbrev pub answer_to : Judged → ℕ
-answer_to (Accepted w h) = network_bytes (h * w)
-answer_to (Refused why) = refusal_number why * 65536 + refusal_place why
+answer_to (Ok size) = network_bytes (size.height * size.width)
+answer_to (Err why) = refusal_number why * 65536 + refusal_place why
 
 -- the record's judgement, with the lent record as room; it knows neither neighbours nor manner
 abbrev pub judgement : (bytes before : List ℕ) → Judged

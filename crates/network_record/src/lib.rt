@@ -14,7 +14,7 @@ ghost use Rattle.record_stages.specs.Readable.{Readable};
 ghost use Rattle.rules.specs.Network.{lifted_network_by};
 
 use grid::Neighbours;
-use ground::{Judged, Room};
+use ground::{Judged, Room, Size};
 use network_bytes::write_network;
 use record_stages::{link_record, walk_record};
 use rules::Manner;
@@ -25,19 +25,19 @@ fn write_linked(
     neighbours: Neighbours,
     manner: Manner,
     bytes: &[u8],
-    width: u16,
-    height: u16,
+    size: Size,
     lifted: &[u32],
     basins: &[u16],
     links: &mut [u8],
     network: &mut [u8],
 )
-    requires readable { Readable bytes.now width height }
-    requires linked_record { LinkedRecord neighbours bytes.now width height lifted.now links.old × (length links.old ≡ 4226) }
-    requires basins_value { take (height * width) basins.now ≡ (lifted_network_by neighbours manner (ground_in bytes.now width height)).basins }
-    requires width_in_bounds { network_bytes (height * width) ≤ length network.old }
+    requires readable { Readable bytes.now size.width size.height }
+    requires linked_record { LinkedRecord neighbours bytes.now size.width size.height lifted.now links.old × (length links.old ≡ 4226) }
+    requires basins_value { take (size.height * size.width) basins.now
+        ≡ (lifted_network_by neighbours manner (ground_in bytes.now size.width size.height)).basins }
+    requires width_in_bounds { network_bytes (size.height * size.width) ≤ length network.old }
     ensures { network.new
-        ≡ overwrite (network_record_by neighbours manner (ground_in bytes.now width height)) network.old }
+        ≡ overwrite (network_record_by neighbours manner (ground_in bytes.now size.width size.height)) network.old }
 {
     let mut receivers = [0u16; 4096];
     let mut order = [0u16; 4096];
@@ -48,8 +48,7 @@ fn write_linked(
         neighbours,
         manner,
         bytes,
-        width,
-        height,
+        size,
         lifted,
         links,
         &mut receivers,
@@ -59,7 +58,15 @@ fn write_linked(
         &mut wet,
     );
     write_network(
-        width, height, &receivers, basins, &order, &levels, &drainage, &wet, network,
+        size.width,
+        size.height,
+        &receivers,
+        basins,
+        &order,
+        &levels,
+        &drainage,
+        &wet,
+        network,
     );
 }
 
@@ -68,14 +75,13 @@ fn write_accepted(
     neighbours: Neighbours,
     manner: Manner,
     bytes: &[u8],
-    width: u16,
-    height: u16,
+    size: Size,
     network: &mut [u8],
 )
-    requires readable { Readable bytes.now width height }
-    requires width_in_bounds { network_bytes (height * width) ≤ length network.old }
+    requires readable { Readable bytes.now size.width size.height }
+    requires width_in_bounds { network_bytes (size.height * size.width) ≤ length network.old }
     ensures { network.new
-        ≡ overwrite (network_record_by neighbours manner (ground_in bytes.now width height)) network.old }
+        ≡ overwrite (network_record_by neighbours manner (ground_in bytes.now size.width size.height)) network.old }
 {
     let mut lifted = [0u32; 4096];
     let mut basins = [0u16; 4096];
@@ -83,14 +89,13 @@ fn write_accepted(
     link_record(
         neighbours,
         bytes,
-        width,
-        height,
+        size,
         &mut lifted,
         &mut basins,
         &mut links,
     );
     write_linked(
-        neighbours, manner, bytes, width, height, &lifted, &basins, &mut links, network,
+        neighbours, manner, bytes, size, &lifted, &basins, &mut links, network,
     );
 }
 
@@ -108,14 +113,9 @@ pub fn record_over(
         fixed: 28,
         len: network.len(),
     };
-    let judged = ground::judge_record(ground, room);
-    match judged {
-        Judged::Refused(why) => Judged::Refused(why),
-        Judged::Accepted(width, height) => {
-            write_accepted(neighbours, manner, ground, width, height, network);
-            Judged::Accepted(width, height)
-        }
-    }
+    let size = ground::judge_record(ground, room)?;
+    write_accepted(neighbours, manner, ground, size, network);
+    Ok(size)
 }
 
 // The answer to a refused record: the number times 65,536, plus the place.
@@ -124,15 +124,15 @@ fn refusal_answer(judged: Judged) -> u32
 {
     let number = ground::number(judged);
     let place = ground::place(judged);
-    number as u32 * 65536 + place as u32
+    u32::from(number) * 65536 + u32::from(place)
 }
 
 // The answer to an accepted one: the length of its network record.
-fn length_answer(width: u16, height: u16) -> u32
-    requires { height * width ≤ 4096 }
-    ensures { result ≡ network_bytes (height * width) }
+fn length_answer(size: Size) -> u32
+    requires { size.height * size.width ≤ 4096 }
+    ensures { result ≡ network_bytes (size.height * size.width) }
 {
-    (15 * ground::cells(width, height) + 28) as u32
+    (15 * ground::cells(size.width, size.height) + 28) as u32
 }
 
 // The answer as one number, for C: the length written, 43 to 61,468, or for a refused record its number times 65,536 plus its place.
@@ -141,7 +141,7 @@ pub fn answer_for_c(judged: Judged) -> u32
     ensures { result ≡ answer_to judged }
 {
     match judged {
-        Judged::Refused(why) => refusal_answer(Judged::Refused(why)),
-        Judged::Accepted(width, height) => length_answer(width, height),
+        Ok(size) => length_answer(size),
+        Err(_) => refusal_answer(judged),
     }
 }

@@ -6,8 +6,7 @@
 ghost use Rattle.std.specs.Prelude.{◌≡◌, ◌%◌, ◌*◌, ◌+◌, ◌/◌, ◌<◌, ◌≤◌, length};
 ghost use Rattle.pairs.specs.Pairs.{greater_of, lesser_of, pair_height, place_in};
 
-use kinds::Cell;
-use lists::most_u32;
+use kinds::{Cell, Numbered};
 
 // The lesser cell of a pair.
 pub fn lesser(p: u16) -> Cell
@@ -21,7 +20,7 @@ fn step(w: usize, p: u16) -> usize
     requires { (0 < w) × (w ≤ 64) }
     ensures { result + (w + 1) ≡ place_in p / 3 * w + place_in p % 3 }
 {
-    let side = (p % 4) as usize;
+    let side = usize::from(p % 4);
     if side == 0 { 1 } else { w + side - 2 }
 }
 
@@ -30,7 +29,7 @@ pub fn greater(w: usize, p: u16) -> Cell
     requires { (0 < w) × (w ≤ 64) × (greater_of w p < 4096) }
     ensures { result.0 ≡ greater_of w p }
 {
-    let far = (p / 4) as usize + step(w, p);
+    let far = usize::from(p / 4) + step(w, p);
     Cell(far as u16)
 }
 
@@ -41,5 +40,5 @@ pub fn height(w: usize, heights: &[u32], p: u16) -> u32
 {
     let a = lesser(p);
     let b = greater(w, p);
-    most_u32(heights[a.0 as usize], heights[b.0 as usize])
+    heights[a.index()].max(heights[b.index()])
 }

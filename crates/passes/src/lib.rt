@@ -2,7 +2,7 @@
 // pass where it joins two groups of labels. All outlet basins have one label, so they count as joined from the start.
 #![tactic(auto)]
 
-ghost use Rattle.std.specs.Prelude.{List, ◌≡◌, ℕ, ◌<◌, ◌≤◌, length};
+ghost use Rattle.std.specs.Prelude.{cond, List, ◌≡◌, ℕ, ◌<◌, ◌≤◌, length};
 ghost use Rattle.groups.specs.Groups.{Down, Joined, two_groups};
 ghost use Rattle.lists.specs.Lists.{at, upto};
 ghost use Rattle.pairs.specs.Pairs.{crossing_of, greater_of, lesser_of};
@@ -12,25 +12,21 @@ ghost use Rattle.rules.specs.Land.{Land};
 
 use grid::Neighbours;
 use groups::{alone, unite};
-use kinds::Basin;
+use kinds::{Basin, Numbered};
 use pairs::{greater, lesser};
 use sorting::sort_pairs;
 use squares::list_pairs;
 
-// The groups of a pair's two labels become one. Gives 1 where they were two, and 0 where they were one already.
-fn join(w: usize, labels: &[u16], p: u16, group: &mut [u16]) -> u8
+// The groups of a pair's two labels become one. Gives whether they were two.
+fn join(w: usize, labels: &[u16], p: u16, group: &mut [u16]) -> bool
     requires w_nonzero { (0 < w) × (w ≤ 64) × (length labels.now ≤ 4096) × Down group.old }
     requires p_in_bounds { (greater_of w p < length labels.now) × ((c : ℕ) → c < length labels.now → at labels.now c < length group.old) }
-    ensures { (result ≡ two_groups group.old (at labels.now (lesser_of p)) (at labels.now (greater_of w p)))
+    ensures { (cond result 1 0 ≡ two_groups group.old (at labels.now (lesser_of p)) (at labels.now (greater_of w p)))
         × Joined group.old (at labels.now (lesser_of p)) (at labels.now (greater_of w p)) group.new }
 {
     let a = lesser(p);
     let b = greater(w, p);
-    unite(
-        group,
-        Basin(labels[a.0 as usize]),
-        Basin(labels[b.0 as usize]),
-    )
+    unite(group, Basin(labels[a.index()]), Basin(labels[b.index()]))
 }
 
 // Goes through the pairs in their order and joins the labels of each, in groups of 4,097 labels of their own. Each pair is written
@@ -43,13 +39,11 @@ fn pick_along(w: usize, labels: &[u16], group: &mut [u16], list: &mut [u16]) -> 
         → Picked (crossing_of w) L list.old list.new result }
 {
     let mut m = 0;
-    let mut i = 0;
-    while i < list.len() {
+    for i in 0..list.len() {
         let p = list[i];
         let joined = join(w, labels, p, group);
         list[m] = p;
-        m += joined as usize;
-        i += 1;
+        m += usize::from(joined);
     }
     m
 }

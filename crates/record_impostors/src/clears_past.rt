@@ -1,9 +1,10 @@
 // An impostor: the right answer and the right entries, but the entry after the most cells that a tile has is cleared.
-ghost use Rattle.std.specs.Prelude.{◌≡◌, set};
+ghost use Rattle.std.specs.Prelude.{set};
 ghost use Rattle.ground.specs.Record.{ground_of_record};
 ghost use Rattle.lists.specs.Allowed.{Allowed};
 ghost use Rattle.records.specs.Calls.{left_of, read_judgement, three_lists};
 
+use crate::clear_at;
 use ground::Judged;
 
 // The right answer and entries, and one entry too many.
@@ -17,13 +18,4 @@ pub fn read_record(bytes: &[u8], heights: &mut [i32], marks: &mut [u8], water: &
     let judged = records::read_record(bytes, heights, marks, water);
     clear_at(marks, 4096);
     judged
-}
-
-// The entry at `at` set to 0, where there is one.
-fn clear_at(marks: &mut [u8], at: usize)
-    ensures { marks.new ≡ set marks.old at 0 }
-{
-    if at < marks.len() {
-        marks[at] = 0;
-    }
 }

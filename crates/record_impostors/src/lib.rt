@@ -2,6 +2,7 @@
 // edit puts an impostor in its place: each impostor is safe and keeps a promise of its own, and the promise of `read` shuts it out.
 #![tactic(auto)]
 
+ghost use Rattle.std.specs.Prelude.{◌≡◌, set};
 ghost use Rattle.records.specs.Calls.{Read, three_lists};
 
 use ground::Judged;
@@ -10,6 +11,15 @@ mod accepts_everything; // accepts_everything.rt: every record is a good one
 mod clears_past; // clears_past.rt: clears an entry past the last one filled
 mod refuses_everything; // refuses_everything.rt: every record is refused, with the right numbers for some
 mod writes_first; // writes_first.rt: writes an entry before the record is judged
+
+// The entry at `at` set to 0, where there is one: what two of the impostors do.
+fn clear_at(marks: &mut [u8], at: usize)
+    ensures { marks.new ≡ set marks.old at 0 }
+{
+    if at < marks.len() {
+        marks[at] = 0;
+    }
+}
 
 // Reads a ground record.
 pub fn read(bytes: &[u8], heights: &mut [i32], marks: &mut [u8], water: &mut [u16]) -> Judged

@@ -1,7 +1,8 @@
 // An impostor: the right answer, but the first mark has been written before the record is judged.
-ghost use Rattle.std.specs.Prelude.{◌≡◌, set};
+ghost use Rattle.std.specs.Prelude.{set};
 ghost use Rattle.records.specs.Calls.{Read, three_lists};
 
+use crate::clear_at;
 use ground::Judged;
 
 // The right answer, and an entry written before it was known.
@@ -10,15 +11,6 @@ pub fn read_record(bytes: &[u8], heights: &mut [i32], marks: &mut [u8], water: &
         let after = three_lists heights.new marks.new water.new in
         Read bytes.now cleared result after }
 {
-    clear_first(marks);
+    clear_at(marks, 0);
     records::read_record(bytes, heights, marks, water)
-}
-
-// The first entry set to 0, where there is one.
-fn clear_first(marks: &mut [u8])
-    ensures { marks.new ≡ set marks.old 0 0 }
-{
-    if 0 < marks.len() {
-        marks[0] = 0;
-    }
 }

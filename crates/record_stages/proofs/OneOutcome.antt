@@ -30,24 +30,24 @@ heights_in s w h = map lifted (ground_in s w h).heights
 -- the heights, the basins, and the mask of each cell
 pub link_record-one : OneOutcome 4 link-record-kinds.ps link-record-kinds.r link-record.Asked link-record.Learnt {B = List ℕ × (List ℕ × List ℕ)}
     (λ κs a r e. (
-      take (a.1.1.1.0 * a.1.1.0) e.1.1.1.1.0.now,
+      take (a.1.1.0.height * a.1.1.0.width) e.1.1.1.0.now,
       (
-        e.1.1.1.1.1.0.now,
-        tab (length (heights_in a.1.0.now a.1.1.0 a.1.1.1.0)) (at (drop 65 e.1.1.1.1.1.1.0.now)),
+        e.1.1.1.1.0.now,
+        tab (length (heights_in a.1.0.now a.1.1.0.width a.1.1.0.height)) (at (drop 65 e.1.1.1.1.1.0.now)),
       ),
     ))
 link_record-one κs a p r r' e e' x y =
     let heights = one_answer x.linked.heights_are y.linked.heights_are in
     let basins = one_answer x.basins_are y.basins_are in
-    let masks = tab_same (at (drop 65 e.1.1.1.1.1.1.0.now)) (at (drop 65 e'.1.1.1.1.1.1.0.now))
-    (length (heights_in a.1.0.now a.1.1.0 a.1.1.1.0))
+    let masks = tab_same (at (drop 65 e.1.1.1.1.1.0.now)) (at (drop 65 e'.1.1.1.1.1.0.now))
+    (length (heights_in a.1.0.now a.1.1.0.width a.1.1.0.height))
     (λ c h. one_answer (x.linked.linked.inside.masks c h) (y.linked.linked.inside.masks c h)) in
     (refl, λ i. (heights i, (basins i, masks i)))
 
 -- drainage, order, receivers, levels and wet
 pub walk_record-one : OneOutcome 8 walk-record-kinds.ps walk-record-kinds.r walk-record.Asked walk-record.Learnt
-    (λ κs a r e. lent e.1.1.1.1.1.1.1.1.1.1.0.now e.1.1.1.1.1.1.1.1.0.now e.1.1.1.1.1.1.1.0.now
-    e.1.1.1.1.1.1.1.1.1.0.now e.1.1.1.1.1.1.1.1.1.1.1.0.now)
+    (λ κs a r e. lent e.1.1.1.1.1.1.1.1.1.0.now e.1.1.1.1.1.1.1.0.now e.1.1.1.1.1.1.0.now
+    e.1.1.1.1.1.1.1.1.0.now e.1.1.1.1.1.1.1.1.1.1.0.now)
 walk_record-one κs a p r r' e e' x y =
     let receivers = one_answer x.receivers_are y.receivers_are in
     let order = one_answer x.order_is y.order_is in

@@ -13,6 +13,7 @@ ghost use Rattle.walk.specs.Walk.{lent, LentHolds};
 
 use drainage::drain_section;
 use grid::Neighbours;
+use ground::Size;
 use manners::walk_by;
 use rules::Manner;
 use stages::link_cells;
@@ -23,27 +24,26 @@ pub fn lift_record(bytes: &[u8], n: usize, out: &mut [u32])
     ensures { out.new ≡ filled (lifted_at bytes.now) n out.old }
 {
     for k in 0..n {
-        out[k] = heights::lift_bits(sections::read_u32(bytes, 4 * k));
+        out[k] = heights::lift_bits(sections::read::<u32>(bytes, 4 * k));
     }
 }
 
-// The heights of the ground in a record of width by height cells, lifted, its basins, and the links of its network. Work space: that
+// The heights of the ground in a record of this size, lifted, its basins, and the links of its network. Work space: that
 // of the stages.
 pub fn link_record(
     neighbours: Neighbours,
     bytes: &[u8],
-    width: u16,
-    height: u16,
+    size: Size,
     lifted: &mut [u32],
     basins: &mut [u16],
     links: &mut [u8],
 )
-    requires readable { Readable bytes.now width height }
-    requires width_in_bounds { (height * width ≤ length lifted.old) × (height * width ≤ length basins.old) × (length links.old ≡ 4226) }
-    ensures { RecordLinked neighbours bytes.now width height basins.old lifted.new basins.new links.new }
+    requires readable { Readable bytes.now size.width size.height }
+    requires width_in_bounds { (size.height * size.width ≤ length lifted.old) × (size.height * size.width ≤ length basins.old) × (length links.old ≡ 4226) }
+    ensures { RecordLinked neighbours bytes.now size.width size.height basins.old lifted.new basins.new links.new }
 {
-    let n = ground::cells(width, height);
-    let w = width as usize;
+    let n = ground::cells(size.width, size.height);
+    let w = size.width as usize;
     let from = 4 * n;
     let to = 5 * n;
     lift_record(bytes, n, lifted);
@@ -56,8 +56,7 @@ pub fn walk_record(
     neighbours: Neighbours,
     manner: Manner,
     bytes: &[u8],
-    width: u16,
-    height: u16,
+    size: Size,
     lifted: &[u32],
     links: &mut [u8],
     receivers: &mut [u16],
@@ -66,15 +65,15 @@ pub fn walk_record(
     drainage: &mut [u32],
     wet: &mut [u8],
 )
-    requires readable { Readable bytes.now width height }
-    requires linked_record { LinkedRecord neighbours bytes.now width height lifted.now links.old × (length links.old ≡ 4226) }
-    requires lent_holds { LentHolds (height * width) (lent drainage.old order.old receivers.old levels.old wet.old) }
+    requires readable { Readable bytes.now size.width size.height }
+    requires linked_record { LinkedRecord neighbours bytes.now size.width size.height lifted.now links.old × (length links.old ≡ 4226) }
+    requires lent_holds { LentHolds (size.height * size.width) (lent drainage.old order.old receivers.old levels.old wet.old) }
     ensures { let before = lent drainage.old order.old receivers.old levels.old wet.old in
         let after = lent drainage.new order.new receivers.new levels.new wet.new in
-        RecordWalked neighbours manner bytes.now width height before after }
+        RecordWalked neighbours manner bytes.now size.width size.height before after }
 {
-    let n = ground::cells(width, height);
-    let w = width as usize;
+    let n = ground::cells(size.width, size.height);
+    let w = size.width as usize;
     let from = 4 * n;
     let to = 5 * n;
     walk_by(

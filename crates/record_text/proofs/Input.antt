@@ -8,7 +8,7 @@ use lib.ListN.{length, take}
 use borrow.Author.Tests.{le-leb, lt-leb}
 use Rattle.ground.proofs.Acceptance.{accepted_length, must_held, record_accepted}
 use Rattle.ground.specs.Accepted.{AcceptedRecord}
-use Rattle.ground.specs.Judge.{judge_record, refusal_number, refusal_place}
+use Rattle.ground.specs.Judge.{Accepted, Judged, judge_record, Refused, refusal_number, refusal_place}
 use Rattle.ground.specs.Record.{ground_in, ground_of_record}
 use Rattle.ground.specs.Rooms.{any_room}
 use Rattle.record_stages.proofs.Accepted.{named_ground, readable_here}
@@ -17,8 +17,6 @@ use Rattle.record_text.specs.RecordText.{judged_text, judge_input, longest_recor
 use Rattle.rules.specs.Ground.{Ground}
 use Rattle.text.proofs.Inputs.{enough_read}
 use Rattle.text.specs.Text.{refused_text}
-use Rattle.ground.specs.declared.Judged.{Judged}
-use Rattle.ground.specs.declared.Judged.TheVariants.{Accepted, Refused}
 use Rattle.ground.specs.declared.Refusal.{Refusal}
 use Rattle.ground.specs.declared.Refusal.TheVariants.{BadLength}
 

@@ -15,7 +15,7 @@ pub fn judge_input(bytes: &[u8]) -> Judged
     ensures { result ≡ judge_input bytes.now }
 {
     if 28_688 < bytes.len() {
-        return Judged::Refused(Refusal::BadLength);
+        return Err(Refusal::BadLength);
     }
     ground::check_record(bytes)
 }
@@ -25,6 +25,6 @@ pub fn write_refusal(text: &mut [u8], why: Refusal) -> usize
     requires { 20 ≤ length text.old }
     ensures { Printed (refused_text (refusal_number why) (refusal_place why)) text.old text.new result }
 {
-    let answer = Judged::Refused(why);
+    let answer: Judged = Err(why);
     text::write_refused(text, ground::number(answer), ground::place(answer))
 }

@@ -13,7 +13,7 @@ use Rattle.lists.specs.Lists.{Below}
 use Rattle.records.proofs.WhatWasRead.{record_read}
 use Rattle.records.proofs.WhatWasWritten.{ground-written, written_accepted}
 use Rattle.rules.specs.Ground.{cells_of, Ground}
-use Rattle.ground.specs.declared.Judged.TheVariants.{Accepted}
+use Rattle.ground.specs.Judge.{Accepted}
 
 -- reading what was written gives the same lists, for all lists that the writer accepts
 pub reading_what_was-written : (out room : ℕ → Bool) (g : Ground) {w h : ℕ} → Below 65536 g.water

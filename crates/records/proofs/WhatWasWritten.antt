@@ -20,7 +20,7 @@ use Rattle.sections.proofs.Sections.{numbers_at-section_of}
 use Rattle.sections.specs.LittleEndian.{number_at, numbers_at, section_of}
 use Rattle.records.proofs.Sections.{length-record_of, marks-start, trailer_start_lem, water-start}
 use Rattle.rules.specs.Ground.{cells_of, Ground}
-use Rattle.ground.specs.declared.Judged.TheVariants.{Accepted}
+use Rattle.ground.specs.Judge.{Accepted}
 
 module _ (g : Ground) (good : Good g) (small : Below 65536 g.water) where
   full : Full g.heights g.marks g.water (cells_of g)

@@ -6,7 +6,7 @@ use Rattle.ground.specs.Record.{ground_of_record, record_of}
 use Rattle.ground.specs.Rooms.{lists_hold, record_holds}
 use Rattle.lists.specs.Allowed.{Allowed}
 use Rattle.rules.specs.Ground.{Ground}
-use Rattle.ground.specs.declared.Judged.{Judged}
+use Rattle.ground.specs.Judge.{Judged}
 
 -- the three lent lists
 pub record ThreeLists : Type 0 where

@@ -20,9 +20,9 @@ fn read_cells(bytes: &[u8], n: usize, heights: &mut [i32], marks: &mut [u8], wat
     ensures marks_after { marks.new ≡ overwrite (stretch (4 * n) n bytes.now) marks.old }
     ensures water_after { water.new ≡ overwrite (numbers_at 2 bytes.now (5 * n) n) water.old }
 {
-    heights::read_section_heights(bytes, 0, n, heights);
-    sections::read_section_u8(bytes, 4 * n, n, marks);
-    sections::read_section_u16(bytes, 5 * n, n, water);
+    sections::read_section(bytes, 0, n, heights);
+    sections::read_section(bytes, 4 * n, n, marks);
+    sections::read_section(bytes, 5 * n, n, water);
 }
 
 // A ground record into lent lists of heights, marks and water, each of at least N entries.
@@ -34,16 +34,17 @@ pub fn read_record(bytes: &[u8], heights: &mut [i32], marks: &mut [u8], water: &
     let room = Room {
         each: 1,
         fixed: 0,
-        len: lists::least(heights.len(), lists::least(marks.len(), water.len())),
+        len: heights.len().min(marks.len().min(water.len())),
     };
-    let judged = ground::judge_record(bytes, room);
-    match judged {
-        Judged::Refused(why) => Judged::Refused(why),
-        Judged::Accepted(width, height) => {
-            read_cells(bytes, ground::cells(width, height), heights, marks, water);
-            Judged::Accepted(width, height)
-        }
-    }
+    let size = ground::judge_record(bytes, room)?;
+    read_cells(
+        bytes,
+        ground::cells(size.width, size.height),
+        heights,
+        marks,
+        water,
+    );
+    Ok(size)
 }
 
 // The trailer of a ground record into a part of 16 bytes.
@@ -52,11 +53,11 @@ fn fill_trailer(part: &mut [u8], width: u16, height: u16)
     ensures { part.new ≡ trailer width height }
 {
     let n = ground::cells(width, height) as u32;
-    sections::write_u16(part, 0, width);
-    sections::write_u16(part, 2, height);
-    sections::write_u32(part, 4, 7 * n);
-    sections::write_u32(part, 8, 3 * n);
-    sections::write_u32(part, 12, 2 * n);
+    sections::write(part, 0, width);
+    sections::write(part, 2, height);
+    sections::write(part, 4, 7 * n);
+    sections::write(part, 8, 3 * n);
+    sections::write(part, 12, 2 * n);
 }
 
 // The trailer into the record from index `from` on.
@@ -83,9 +84,9 @@ fn write_sections(
         bytes.new ≡ overwrite (record_of g) bytes.old }
 {
     let n = ground::cells(width, height);
-    heights::write_section_heights(bytes, 0, heights);
-    sections::write_section_u8(bytes, 4 * n, marks);
-    sections::write_section_u16(bytes, 5 * n, water);
+    sections::write_section(bytes, 0, heights);
+    sections::write_section(bytes, 4 * n, marks);
+    sections::write_section(bytes, 5 * n, water);
     write_trailer(bytes, 7 * n, width, height);
 }
 
@@ -106,12 +107,7 @@ pub fn write_record(
         fixed: 16,
         len: bytes.len(),
     };
-    let judged = ground::judge_lists(width, height, heights, marks, water, room);
-    match judged {
-        Judged::Refused(why) => Judged::Refused(why),
-        Judged::Accepted(_, _) => {
-            write_sections(width, height, heights, marks, water, bytes);
-            Judged::Accepted(width, height)
-        }
-    }
+    let size = ground::judge_lists(width, height, heights, marks, water, room)?;
+    write_sections(width, height, heights, marks, water, bytes);
+    Ok(size)
 }

@@ -1,7 +1,7 @@
 -- Document 01, "Records": little-endian numbers, and the sections that they stand in, with no gaps.
 -- Assumes nothing.
-use Rattle.std.specs.Prelude.{[], List, ◌++◌, ◌∷◌, suc, zero, ℕ, ◌%◌, ◌*◌, ◌+◌, ◌/◌, drop, get_or, take}
-use Rattle.lists.specs.Lists.{tab}
+use Rattle.std.specs.Prelude.{[], List, ◌∷◌, suc, zero, ℕ, ◌%◌, ◌*◌, ◌+◌, ◌/◌, get_or}
+use Rattle.lists.specs.Lists.{flat, tab}
 
 -- the number x in w bytes, the least first
 abbrev pub bytes_of : ℕ → ℕ → List ℕ
@@ -15,12 +15,7 @@ number_at (suc w) s from = get_or s from 0 + 256 * number_at w s (suc from)
 
 -- the section of a list of numbers, w bytes each
 abbrev pub section_of : ℕ → List ℕ → List ℕ
-section_of w [] = []
-section_of w (x ∷ xs) = bytes_of w x ++ section_of w xs
-
--- the section of the first i of a list's numbers, and then what stood there before
-abbrev pub section_filled : ℕ → List ℕ → List ℕ → ℕ → List ℕ
-section_filled w xs old i = section_of w (take i xs) ++ drop (w * i) old
+section_of w xs = flat (bytes_of w) xs
 
 -- the n numbers of the section of s that starts at index `from`, w bytes each
 abbrev pub numbers_at : ℕ → List ℕ → ℕ → ℕ → List ℕ

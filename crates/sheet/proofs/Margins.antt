@@ -1,22 +1,22 @@
--- Lists with a margin: entries stored after the first 65, one more at each turn of a loop, and what stands at a cell's place.
+-- Lists with a margin: entries stored after the first 65, and what stands at a cell's place.
 -- Assumes nothing.
-use Rattle.std.proofs.Common.{◌≡◌, ℕ, ◌+◌, ◌<◌, ◌≤◌, List, [], ◌∷◌, ◌++◌, length, take, drop, set, sym, ap, ◌∙◌, add-one, arith, length-append, length-drop}
-use Rattle.std.proofs.Common.{take-append-drop, length-take-le, get_or-append-add}
-use lib.ListN.{get_or-append}
-use Rattle.lists.proofs.Stored.{stored_on, stored-sets}
-use Rattle.lists.proofs.Tab.{tab-length, tab-suc}
-use Rattle.lists.specs.Lists.{at, stored, tab}
+use mathlib.Core.List.{append-nil}
+use Rattle.std.proofs.Common.{◌≡◌, ℕ, ◌+◌, ◌-◌, ◌<◌, ◌≤◌, List, [], ◌++◌, length, take, drop, sym, ap, ◌∙◌, arith, length-append, length-drop}
+use Rattle.std.proofs.Common.{length-take-le, get_or-append-add}
+use Rattle.std.proofs.lemmas.List.{drop-drop}
+use lib.ListN.{drop_of_length-le, get_or-append}
+use lib.Seq.{take-length}
+use Rattle.lists.specs.Lists.{at, filled, stored, tab}
 
-module _ (f : ℕ → ℕ) (old : List ℕ) where
-  pub stored-none : stored 65 (tab 0 f) old ≡ old
-  stored-none = take-append-drop 65 old
-
-  pub stored_put : {l : List ℕ} (n i : ℕ) → n + 65 < length old → length l ≡ length old → l ≡ stored 65 (tab n f) old → i ≡ n + 65
-      → set l i (f n) ≡ stored 65 (tab (n + 1) f) old
-  stored_put {l} n i h s e q =
-      let k = tab-length f n in
-      stored_on (tab n f) (f n ∷ []) old 65 i (omega arith) (omega arith) e (stored-sets l i (f n ∷ []) (omega arith))
-      ∙ ap (λ (x : List ℕ). stored 65 x old) (sym (tab-suc f n) ∙ ap (λ (m : ℕ). tab m f) (sym (add-one n)))
+-- a list filled from the margin on, where what is past the margin was lent
+pub stored_filled : (f : ℕ → ℕ) (n : ℕ) (old : List ℕ) {back : List ℕ} → back ≡ filled f n (take (length old - 65) (drop 65 old))
+    → take 65 old ++ (back ++ drop (length old - 65) (drop 65 old)) ≡ stored 65 (tab n f) old
+unfolding filled
+stored_filled f n old e =
+    let none : drop (length old - 65) (drop 65 old) ≡ [] = drop_of_length-le (drop 65 old) (omega (arith, length-drop 65 old)) in
+    let whole : take (length old - 65) (drop 65 old) ≡ drop 65 old =
+    ap (λ (m : ℕ). take m (drop 65 old)) (sym (length-drop 65 old)) ∙ take-length (drop 65 old) in
+    rw (e, whole, none, append-nil, drop-drop)
 
 -- the entry of a cell
 pub stored_at : (new old : List ℕ) (c : ℕ) → 65 ≤ length old → c < length new → at (stored 65 new old) (c + 65) ≡ at new c

@@ -7,7 +7,6 @@ ghost use Rattle.first_receivers.specs.Weights.{first_is};
 ghost use Rattle.grid.specs.Masks.{leads, mask_of};
 ghost use Rattle.grid.specs.Neighbours.{places_by};
 ghost use Rattle.grid.specs.Window.{around, beside};
-ghost use Rattle.grid.specs.declared.Neighbours.TheVariants.{Eight, Four};
 ghost use Rattle.lists.specs.Lists.{at, filled, stored, tab};
 ghost use Rattle.rules.specs.Tile.{Tile};
 ghost use Rattle.sheet.specs.LevelSteps.{first_count, lead_weight, step_weight};
@@ -26,6 +25,7 @@ use std::num::wrapping_sub_u16;
 const MARGIN: usize = 65;
 
 // The count of a cell that no way was found from.
+// Stays: a number and no Option, since `spread` asks for it (`none`).
 const NONE: u16 = 65_535;
 
 // The first count of a cell with this mark and this weight.
@@ -41,29 +41,25 @@ fn first_count(mark: u8, weight: u8) -> u16
     }
 }
 
-// The first counts of all cells. In the loop the cells before c have theirs.
+// The first counts of all cells.
 fn first_counts(weights: &[u8], marks: &[u8], counts: &mut [u16])
     requires { (length marks.now ≤ 4096) × (length marks.now ≤ length weights.now) × (length marks.now + 130 ≤ length counts.old) }
     ensures { counts.new
         ≡ stored 65 (tab (length marks.now) (first_count weights.now marks.now)) counts.old }
 {
-    let mut c = 0;
-    while c < marks.len() {
-        counts[c + MARGIN] = first_count(marks[c], weights[c]);
-        c += 1;
-    }
+    lists::fill(
+        &mut counts[MARGIN..],
+        marks.len(),
+        |c| first_count(marks[c], weights[c]),
+    );
 }
 
-// The levels with a margin. In the loop those before c are there.
+// The levels with a margin.
 fn copy_levels(levels: &[u32], labels: &mut [u32])
     requires { (length levels.now ≤ 4096) × (length levels.now + 130 ≤ length labels.old) }
     ensures { labels.new ≡ stored 65 levels.now labels.old }
 {
-    let mut c = 0;
-    while c < levels.len() {
-        labels[c + MARGIN] = levels[c];
-        c += 1;
-    }
+    labels[MARGIN..MARGIN + levels.len()].copy_from_slice(levels);
 }
 
 // The weights of the lowest neighbours, and the masks of the neighbours of a cell's own level. Work space: 21 KB.
@@ -138,7 +134,7 @@ fn lead_weight(count: u16, weight: u8, step: u8) -> u8
     if count == 0 { weight } else { step }
 }
 
-// Level steps in the weights of all cells whose count isn't 0. In the loop the cells before c have their weights.
+// Level steps in the weights of all cells whose count isn't 0.
 fn step_weights(neighbours: Neighbours, w: usize, likes: &[u8], counts: &[u16], weights: &mut [u8])
     requires w_nonzero { (0 < w) × (w ≤ 64) × (length likes.now ≤ 4096) }
     requires likes_in_bounds { (length likes.now ≤ length weights.old) × (length likes.now + 130 ≤ length counts.now) }
@@ -146,11 +142,9 @@ fn step_weights(neighbours: Neighbours, w: usize, likes: &[u8], counts: &[u16], 
         ≡ filled (lead_weight neighbours w likes.now counts.now weights.old) (length likes.now)
         weights.old }
 {
-    let mut c = 0;
-    while c < likes.len() {
+    for c in 0..likes.len() {
         let step = step_weight(neighbours, w, counts, c, likes[c]);
         weights[c] = lead_weight(counts[c + MARGIN], weights[c], step);
-        c += 1;
     }
 }
 
@@ -205,32 +199,13 @@ fn link_weighed(
     link_leads(neighbours, w, weights, n, &mut links[65..4161]);
 }
 
-// With four neighbours. Work space: 4 KB, and that of the parts.
-fn link_by_sides(w: usize, levels: &[u32], marks: &[u8], links: &mut [u8])
-    requires { ((heights : List ℕ) × Carved Four w heights levels.now marks.now) × (length links.old ≡ 4226) }
-    ensures { SheetLinked Four w levels.now marks.now links.new }
-{
-    let mut weights = [0u8; 4096];
-    link_weighed(Neighbours::Four, w, levels, marks, &mut weights, links);
-}
-
-// With eight.
-fn link_all_around(w: usize, levels: &[u32], marks: &[u8], links: &mut [u8])
-    requires { ((heights : List ℕ) × Carved Eight w heights levels.now marks.now) × (length links.old ≡ 4226) }
-    ensures { SheetLinked Eight w levels.now marks.now links.new }
-{
-    let mut weights = [0u8; 4096];
-    link_weighed(Neighbours::Eight, w, levels, marks, &mut weights, links);
-}
-
-// The links of sheet flow over carving's levels, with a margin of 65 entries on both sides of them. Each number of neighbours has a call of
-// its own: so the compiler gives the work of both a frame of its own, and who links cells and walks doesn't carry its lists.
+// The links of sheet flow over carving's levels, with a margin of 65 entries on both sides of them. It is called and not inlined: so its lists
+// have a frame of their own, and who links cells and walks doesn't carry them. Work space: 4 KB, and that of the parts.
+#[inline(never)]
 pub fn link_sheet(neighbours: Neighbours, w: usize, levels: &[u32], marks: &[u8], links: &mut [u8])
     requires { ((heights : List ℕ) × Carved neighbours w heights levels.now marks.now) × (length links.old ≡ 4226) }
     ensures { SheetLinked neighbours w levels.now marks.now links.new }
 {
-    match neighbours {
-        Neighbours::Four => link_by_sides(w, levels, marks, links),
-        Neighbours::Eight => link_all_around(w, levels, marks, links),
-    }
+    let mut weights = [0u8; 4096];
+    link_weighed(neighbours, w, levels, marks, &mut weights, links);
 }

@@ -3,9 +3,8 @@
 use mathlib.Core.List.{List}
 use mathlib.Core.Logic.{inl, inr, ◌⊎◌}
 use mathlib.Core.Path.{ap, sym, ◌∙◌, ◌≡◌}
-use Prim.Native.Nat.{max, min, ℕ, ◌<◌, ◌≤◌}
-use native.Mathlib.Omega.{arith}
-use lib.ListN.{length, length-set, set}
+use Prim.Native.Nat.{max, min, ℕ}
+use lib.ListN.{length, length-set}
 use borrow.Author.Tests.{eq-eqb, ne_eqb}
 use Rattle.groups.proofs.Merging.{Searched}
 use Rattle.groups.specs.Groups.{root_of, SameGroups}
@@ -45,16 +44,3 @@ module _ (g : List ℕ) (a b p : ℕ) (notes : List ℕ) where
         ∙ ap (λ (x : ℕ). noted_at p x s notes) F.one
         ∙ ap (λ (x : ℕ). noted_at p (root_of g a) x notes) F.other
         ∙ sym (noted-two (λ q. n (F.one ∙ q ∙ sym F.other)))
-
--- whichever of two roots is the greater
-pub noted-under : (p r s : ℕ) (notes : List ℕ) → r < s → set notes s (note_of p r) ≡ noted_at p r s notes
-noted-under p r s notes l =
-    let m : max r s ≡ s = omega arith in
-    let n : min r s ≡ r = omega arith in
-    rw (m, n)
-
-pub noted_over : (p r s : ℕ) (notes : List ℕ) → s ≤ r → set notes r (note_of p s) ≡ noted_at p r s notes
-noted_over p r s notes l =
-    let m : max r s ≡ r = omega arith in
-    let n : min r s ≡ s = omega arith in
-    rw (m, n)

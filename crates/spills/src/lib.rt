@@ -7,50 +7,35 @@
 #![tactic(auto)]
 
 ghost use Rattle.std.specs.Prelude.{List, ◌≡◌, max, ℕ, ◌<◌, ◌≤◌, length};
-ghost use Rattle.groups.specs.Groups.{Down, Joined, Root, root_of, SameGroups};
+ghost use Rattle.groups.specs.Groups.{Down, Joined};
 ghost use Rattle.lists.specs.Greatest.{greatest};
 ghost use Rattle.lists.specs.Lists.{at, filled, upto};
 ghost use Rattle.pairs.specs.Pairs.{greater_of, lesser_of};
 ghost use Rattle.spills.specs.Noting.{no_note, noted, noted_at, Noting, Readable, spill_by, SpillsBy};
 ghost use Rattle.spills.specs.Spills.{Raised, Spilling};
 
-use groups::{alone, find_cell, hang_cells};
-use kinds::{Basin, Cell};
-use lists::most_u32;
+use groups::{alone, find_basin, hang_basins};
+use kinds::{Basin, Numbered};
+use lists::fill;
 use pairs::{greater, height, lesser};
 
 // What stands at a label that was never hung.
+// Stays: a number and no Option, as the spills take the notes' place in the same list (`no_note`).
 const NONE: u32 = 4_294_967_295;
-
-// The root of a label's group. `groups` finds roots of cells alone: a label goes in and out as a number of that kind.
-fn find_basin(group: &mut [u16], b: Basin) -> Basin
-    requires { (b.0 < length group.old) × Down group.old }
-    ensures { (result.0 ≡ root_of group.old b.0) × SameGroups group.old group.new }
-{
-    Basin(find_cell(group, Cell(b.0)).0)
-}
-
-// The groups of two labels that are roots become one: the greater is hung under the lesser.
-fn hang_basins(group: &mut [u16], p: Basin, q: Basin)
-    requires { Down group.old × Root group.old p.0 × Root group.old q.0 }
-    ensures { Joined group.old p.0 q.0 group.new }
-{
-    hang_cells(group, Cell(p.0), Cell(q.0));
-}
 
 // At the greater of two roots: the pair that joins them, and the lesser root.
 fn note(notes: &mut [u32], pair: u16, r: Basin, s: Basin)
     requires { (r.0 < length notes.old) × (s.0 < length notes.old) }
     ensures { notes.new ≡ noted_at pair r.0 s.0 notes.old }
 {
-    if r.0 < s.0 {
-        notes[s.0 as usize] = 65536 * (pair as u32) + r.0 as u32;
-    } else {
-        notes[r.0 as usize] = 65536 * (pair as u32) + s.0 as u32;
-    }
+    let lo = r.min(s);
+    let hi = r.max(s);
+    notes[hi.index()] = 65536 * u32::from(pair) + u32::from(lo.0);
 }
 
 // The groups of a pair's two labels become one; where they were two, that is noted.
+// Stays: the like of it in `passes` asks only whether they were two. This one needs both roots for its note, and one form for the two would
+// hand out roots that `passes` drops.
 fn join(w: usize, labels: &[u16], p: u16, group: &mut [u16], notes: &mut [u32])
     requires w_nonzero { (0 < w) × (w ≤ 64) × (length labels.now ≤ 4096) × (greater_of w p < length labels.now) × Down group.old }
     requires group_in_bounds { (length group.old ≤ length notes.old) × ((c : ℕ) → c < length labels.now → at labels.now c < length group.old) }
@@ -60,9 +45,9 @@ fn join(w: usize, labels: &[u16], p: u16, group: &mut [u16], notes: &mut [u32])
 {
     let a = lesser(p);
     let b = greater(w, p);
-    let r = find_basin(group, Basin(labels[a.0 as usize]));
-    let s = find_basin(group, Basin(labels[b.0 as usize]));
-    if r.0 == s.0 {
+    let r = find_basin(group, Basin(labels[a.index()]));
+    let s = find_basin(group, Basin(labels[b.index()]));
+    if r == s {
         return;
     }
     hang_basins(group, r, s);
@@ -76,10 +61,8 @@ fn join_along(w: usize, labels: &[u16], list: &[u16], group: &mut [u16], notes: 
     ensures { (heights : List ℕ) → Spilling w heights labels.now list.now
         → Noting w heights labels.now list.now group.new notes.new }
 {
-    let mut i = 0;
-    while i < list.len() {
-        join(w, labels, list[i], group, notes);
-        i += 1;
+    for p in list {
+        join(w, labels, *p, group, notes);
     }
 }
 
@@ -95,16 +78,12 @@ fn join_all(w: usize, labels: &[u16], list: &[u16], notes: &mut [u32])
     join_along(w, labels, list, &mut group, notes);
 }
 
-// No label is hung yet. After b turns the first b entries say so.
+// No label is hung yet.
 fn clear(notes: &mut [u32])
     requires { 4097 ≤ length notes.old }
     ensures { notes.new ≡ filled (λ b. no_note) 4097 notes.old }
 {
-    let mut b = 0;
-    while b < 4097 {
-        notes[b] = NONE;
-        b += 1;
-    }
+    fill(notes, 4097, |_| NONE);
 }
 
 // The spill that a note says, where the spills of lesser labels stand already.
@@ -116,7 +95,7 @@ fn spill_of(w: usize, heights: &[u32], spills: &[u32], note: u32) -> u32
         return 0;
     }
     let h = height(w, heights, (note / 65536) as u16);
-    most_u32(h, spills[(note % 65536) as usize])
+    h.max(spills[(note % 65536) as usize])
 }
 
 // From notes to spills, in place, for the labels below `top`. After b turns the entries below b are spills, and from b on notes.
@@ -125,27 +104,18 @@ fn spill_all(w: usize, heights: &[u32], top: usize, notes: &mut [u32])
     requires by_index { (b : ℕ) → b ≤ 4096 → Readable w (length heights.now) b (at notes.old b) }
     ensures { SpillsBy w heights.now notes.old top notes.new }
 {
-    let mut b = 0;
-    while b < top {
+    for b in 0..top {
         notes[b] = spill_of(w, heights, notes, notes[b]);
-        b += 1;
     }
-}
-
-// The greater of two labels.
-fn most(a: u16, b: u16) -> u16
-    ensures { result ≡ max a b }
-{
-    if a < b { b } else { a }
 }
 
 // The greatest label. On most tiles there are far fewer labels than cells.
 fn most_of(labels: &[u16]) -> u16
     ensures { result ≡ greatest labels.now }
 {
-    let mut found = 0;
-    for c in 0..labels.len() {
-        found = most(found, labels[c]);
+    let mut found: u16 = 0;
+    for label in labels {
+        found = found.max(*label);
     }
     found
 }
@@ -158,10 +128,8 @@ fn raise(labels: &[u16], spills: &[u32], heights: &mut [u32])
         ≡ filled (λ c. max (at heights.old c) (at spills.now (at labels.now c)))
         (length heights.old) heights.old }
 {
-    let mut c = 0;
-    while c < heights.len() {
-        heights[c] = most_u32(heights[c], spills[labels[c] as usize]);
-        c += 1;
+    for c in 0..heights.len() {
+        heights[c] = heights[c].max(spills[usize::from(labels[c])]);
     }
 }
 
@@ -172,7 +140,7 @@ pub fn spill_levels(w: usize, labels: &[u16], list: &[u16], notes: &mut [u32], h
 {
     clear(notes);
     join_all(w, labels, list, notes);
-    let top = most_of(labels) as usize + 1;
+    let top = usize::from(most_of(labels)) + 1;
     spill_all(w, heights, top, notes);
     raise(labels, notes, heights);
 }

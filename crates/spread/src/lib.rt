@@ -15,6 +15,7 @@ use kinds::Place;
 const MARGIN: usize = 65;
 
 // The count of a cell that no way leads from, and of one that none was found from yet.
+// Stays: a number and no Option, since `spread` promises it to its callers (`none`), and a list of Options is twice as long.
 const NONE: u16 = 65_535;
 
 // The bit, where nothing is counted yet.
@@ -100,11 +101,11 @@ fn visit(
     }
 }
 
-// 1 for a cell to begin with: it is marked and has a neighbour to go on to. On most tiles nearly all marked cells have none.
-fn one_if_begins(count: u16, mask: u8) -> u16
-    ensures { (result ≡ cond (eqb count 0 && not (eqb mask 0)) 1 0) × (result ≤ 1) }
+// Whether to begin with a cell: it is marked and has a neighbour to go on to. On most tiles nearly all marked cells have none.
+fn is_start(count: u16, mask: u8) -> bool
+    ensures { result ≡ (eqb count 0 && not (eqb mask 0)) }
 {
-    if count == 0 && mask != 0 { 1 } else { 0 }
+    count == 0 && mask != 0
 }
 
 // Puts the places of the cells to begin with into the queue, by ascending number.
@@ -114,11 +115,9 @@ fn gather(masks: &[u8], counts: &[u16], queue: &mut [u16]) -> Place
 {
     // Between turns the places of those before cell c stand in the queue.
     let mut tail = Place(0);
-    let mut c = 0;
-    while c < masks.len() {
+    for c in 0..masks.len() {
         queue[tail.0 as usize] = (c + MARGIN) as u16;
-        tail = Place(tail.0 + one_if_begins(counts[c + MARGIN], masks[c]));
-        c += 1;
+        tail = Place(tail.0 + u16::from(is_start(counts[c + MARGIN], masks[c])));
     }
     tail
 }

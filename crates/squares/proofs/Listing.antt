@@ -24,11 +24,11 @@ use Rattle.pairs.specs.Pairs.{crossing_of, Pairs}
 use Rattle.rules.specs.Enough.{Suffices}
 use Rattle.rules.specs.Land.{rule_by}
 use Rattle.rules.specs.Tile.{tile_land}
-use Rattle.squares.proofs.Flags.{flags_asked, flags_same}
+use Rattle.squares.proofs.Flags.{flags_same}
 use Rattle.squares.proofs.KeptPairs.{flag_of, kept_pairs, pairs_ascend, pairs-kept, tile_squares}
 use Rattle.squares.proofs.Sufficing.{pairs-neighbours, pairs_suffice}
 use Rattle.squares.specs.Listing.{Listed, pairs_for}
-use Rattle.squares.specs.Squares.{bit_at, Ends, FlagAsked, flag_by, flagged, pairs_of, square, square_at}
+use Rattle.squares.specs.Squares.{bit_at, Ends, flag_by, flagged, pairs_of, square, square_at}
 use Rattle.grid.specs.declared.Neighbours.{Neighbours}
 
 module _ (N : Neighbours) (w : ℕ) (heights labels : List ℕ) where
@@ -95,9 +95,6 @@ module _ (N : Neighbours) (w : ℕ) (heights labels q f : List ℕ)
     (F : (c : ℕ) → c < length heights → at f c ≡ flag_by N w (length heights) labels (at q) c) where
   abbrev m : ℕ
   m = length heights
-
-  pub flags_asked_for : (c : ℕ) → c < length heights → FlagAsked N (at f c)
-  flags_asked_for c h = subst (FlagAsked N) (sym (F c h)) (flags_asked N w m labels (at q) c)
 
   pairs_are : pairs_of m (at f) ≡ kept_pairs N w heights labels
   unfolding pairs_of

@@ -10,7 +10,7 @@ use Rattle.lists.proofs.Packs.{keep-next, packs_none}
 use Rattle.lists.specs.Lists.{keep, upto}
 use Rattle.lists.specs.Stores.{Packs}
 use Rattle.squares.specs.Listing.{pairs_for}
-use Rattle.squares.specs.Squares.{bit_at, CornerRoom, counted, FlagAsked, flagged, pairs_at, pairs_of}
+use Rattle.squares.specs.Squares.{bit_at, counted, flagged, pairs_at, pairs_of}
 use Rattle.grid.specs.declared.Neighbours.{Neighbours}
 use Rattle.grid.specs.declared.Neighbours.TheVariants.{Eight, Four}
 
@@ -22,34 +22,6 @@ pairs_more Eight c = omega arith
 pub pairs-most : (N : Neighbours) (c : ℕ) → pairs_for N c ≤ 4 * c
 pairs-most Four c = omega arith
 pairs-most Eight c = omega arith
-
-pub pairs_rise : (N : Neighbours) {c n : ℕ} → c ≤ n → pairs_for N c ≤ pairs_for N n
-pairs_rise Four h = omega arith
-pairs_rise Eight h = omega arith
-
--- a cell's pairs have room: the bits of four neighbours are two, as those of diagonal pairs are 0. The count goes from k to k₁, k₂, k₃ and r
-pub room_first : (N : Neighbours) {k len : ℕ} → k + pairs_for N 1 ≤ len → k < len
-room_first Four h = omega arith
-room_first Eight h = omega arith
-
-module _ (flag k : ℕ) {k₁ len : ℕ} (e₁ : k₁ ≡ k + flag % 2) where
-  pub room_left_lem : (N : Neighbours) → FlagAsked N flag → k + pairs_for N 1 ≤ len → CornerRoom N (flag / 2 % 2) k₁ len
-  room_left_lem Four a h = a.0
-  room_left_lem Eight a h = omega arith
-
-  module _ {k₂ : ℕ} (e₂ : k₂ ≡ k₁ + flag / 2 % 2) where
-    pub room_below : (N : Neighbours) → FlagAsked N flag → k + pairs_for N 1 ≤ len → k₂ < len
-    room_below Four a h = omega (arith, a.0)
-    room_below Eight a h = omega arith
-
-    module _ {k₃ : ℕ} (e₃ : k₃ ≡ k₂ + flag / 4 % 2) where
-      pub room_right : (N : Neighbours) → FlagAsked N flag → k + pairs_for N 1 ≤ len → CornerRoom N (flag / 8 % 2) k₃ len
-      room_right Four a h = a.1
-      room_right Eight a h = omega arith
-
-      pub room_taken : {r : ℕ} → r ≡ k₃ + flag / 8 % 2 → (N : Neighbours) → FlagAsked N flag → k + pairs_for N 1 ≤ len → r ≤ k + pairs_for N 1
-      room_taken e Four a h = omega (arith, a.0, a.1)
-      room_taken e Eight a h = omega arith
 
 -- four lists after another one
 pub in_order : (l a b c d : List ℕ) → (((l ++ a) ++ b) ++ c) ++ d ≡ l ++ (a ++ (b ++ (c ++ d)))
@@ -103,6 +75,3 @@ module _ (N : Neighbours) (flags : ℕ → ℕ) where
         most = omega (arith, P.most, pairs_more N c);
         packs = subst (λ (l : List ℕ). Packs l list' k') (sym (pairs_next flags c)) (step _ P.packs);
       }
-
-  pub packing_all : {old list : List ℕ} {k c n : ℕ} → c ≡ n → Packing N flags old list k c → Packs (pairs_of n flags) list k
-  packing_all {list = list} {k = k} e P = subst (λ (z : ℕ). Packs (pairs_of z flags) list k) e P.packs

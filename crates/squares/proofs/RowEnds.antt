@@ -2,17 +2,16 @@
 -- Assumes nothing.
 use mathlib.Core.List.{List}
 use mathlib.Core.Logic.{inl, inr, ◌⊎◌}
-use mathlib.Core.Path.{ap, refl, subst, sym, ◌∙◌, ◌≡◌}
-use Prim.Native.Nat.{ℕ, ◌%◌, ◌+◌, ◌-◌, ◌<◌, ◌≤◌}
-use native.Mathlib.Nat.{add-mod_right, mod-eq_of_lt, mod-lt}
+use mathlib.Core.Path.{ap, subst, sym, ◌∙◌, ◌≡◌}
+use Prim.Native.Nat.{ℕ, ◌%◌, ◌*◌, ◌+◌, ◌-◌, ◌/◌, ◌<◌, ◌≤◌}
+use native.Mathlib.Nat.{add-mod_right, div-add-mod', mod-lt, mul-le-mul_right}
 use native.Mathlib.Omega.{arith}
 use lib.ListN.{length, length-set, set}
 use lib.Seq.{get_or-set_other, get_or-set_same}
-use Rattle.grid.proofs.Rows.{column_apart}
+use Rattle.grid.proofs.Rows.{column_apart, row_next}
 use Rattle.grid.specs.Window.{Rows}
 use Rattle.lists.proofs.Tests.{eq_or_ne, lt_or_ge}
 use Rattle.lists.specs.Lists.{at}
-use Rattle.squares.specs.Squares.{Ends}
 
 -- the ends of the rows before e are 13
 pub record Ending (w n : ℕ) (old new : List ℕ) (e : ℕ) : Type 0 where
@@ -22,17 +21,6 @@ pub record Ending (w n : ℕ) (old new : List ℕ) (e : ℕ) : Type 0 where
   pub rest : (k : ℕ) → (n ≤ k) ⊎ (k % w + 1 < w) → at new k ≡ at old k
 
 module _ {w n : ℕ} (G : Rows w n) where
-  pub ending_none : (old : List ℕ) → Ending w n old old (w - 1)
-  ending_none old =
-      let h = G.wide in
-      let e : (w - 1) % w ≡ w - 1 = mod-eq_of_lt (omega arith) in
-      record {
-        long = refl;
-        column = omega arith;
-        last = λ k i j q. let z : k % w ≡ k = mod-eq_of_lt (omega arith) in absurd (omega arith);
-        rest = λ k o. refl;
-      }
-
   pub ending_next : {old new : List ℕ} (e : ℕ) → n ≤ length old → e < n → Ending w n old new e → Ending w n old (set new e 13) (e + w)
   ending_next {old} {new} e room h E =
       record {
@@ -54,5 +42,12 @@ module _ {w n : ℕ} (G : Rows w n) where
           let c = E.column in
           absurd (column_apart w e k G.wide (omega arith) (omega arith) j)
 
-  pub ending_all : {old new : List ℕ} (e : ℕ) → n ≤ e → Ending w n old new e → Ends w n old new
-  ending_all e h E = record { long = E.long; last = λ k i q. E.last k i (omega arith) q; rest = E.rest }
+  -- the same by the row's number
+  pub ending_row : {old new : List ℕ} (row : ℕ) → n ≤ length old → row < n / w → Ending w n old new (row * w + w - 1)
+      → Ending w n old (set new (row * w + w - 1) 13) ((row + 1) * w + w - 1)
+  ending_row {old} {new} row room h E =
+      let wide = G.wide in
+      let fits : (row + 1) * w ≤ n / w * w = mul-le-mul_right w (omega arith) in
+      let whole = div-add-mod' n w in
+      let next = row_next row w in
+      subst (Ending w n old (set new (row * w + w - 1) 13)) (omega arith) (ending_next (row * w + w - 1) room (omega arith) E)

@@ -130,6 +130,10 @@ pub record Ends (w n : ℕ) (old new : List ℕ) : Type 0 where
   pub last : (k : ℕ) → k < n → w ≤ k % w + 1 → at new k ≡ 13
   pub rest : (k : ℕ) → (n ≤ k) ⊎ (k % w + 1 < w) → at new k ≡ at old k
 
+-- n cells have a label and a flag each, and squares after a margin
+abbrev pub Flaggable : (n labels squares flags : ℕ) → Type 0
+Flaggable n labels squares flags = (n ≤ 4096) × (n ≤ labels) × (n + 64 ≤ squares) × (n ≤ flags)
+
 -- heights that keys have room for, of at most 4,096 cells
 abbrev pub Keyable : List ℕ → Type 0
 Keyable heights = (length heights ≤ 4096) × ((c : ℕ) → at heights c ≤ 16000000)

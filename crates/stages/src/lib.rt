@@ -4,7 +4,7 @@
 ghost use Rattle.std.specs.Prelude.{List, ◌≡◌, ℕ, ◌≤◌, length, take};
 ghost use Rattle.grid.specs.Masks.{joined, mask_of};
 ghost use Rattle.grid.specs.Window.{around};
-ghost use Rattle.grid.specs.declared.Neighbours.TheVariants.{Eight, Four};
+ghost use Rattle.grid.specs.declared.Neighbours.TheVariants.{Four};
 ghost use Rattle.lists.specs.Lists.{filled};
 ghost use Rattle.rules.specs.FirstWays.{basin, first_receiver};
 ghost use Rattle.rules.specs.Land.{rule_by};
@@ -66,50 +66,33 @@ fn link_chosen(
     link_pairs(w, &list[..count], links);
 }
 
-// With four neighbours a cell has two pairs: to the right and below. Work space: 48 KB, and that of choosing.
-fn link_two_each(w: usize, heights: &[u32], labels: &[u16], links: &mut [u8])
-    requires { (marks : List ℕ) × Linkable (rule_by Four) w heights.now marks labels.now links.old }
-    ensures { PassesLinked Four w heights.now labels.now links.old links.new }
+// The same with room for so many pairs. It is no more than these lists and a call, so that the compiler takes it into its caller, where the
+// lists share their place with those that are needed later. Work space: 6 bytes for each pair, and that of choosing.
+fn link_in_room<const PAIRS: usize>(
+    neighbours: Neighbours,
+    w: usize,
+    heights: &[u32],
+    labels: &[u16],
+    links: &mut [u8],
+)
+    requires by_index { (marks : List ℕ) × Linkable (rule_by neighbours) w heights.now marks labels.now links.old }
+    requires room { (pairs_for neighbours (length heights.now) ≤ PAIRS) × (PAIRS ≤ 16384) }
+    ensures { PassesLinked neighbours w heights.now labels.now links.old links.new }
 {
-    let mut list = [0u16; 8192];
-    let mut spare = [0u32; 8192];
-    link_chosen(
-        Neighbours::Four,
-        w,
-        heights,
-        labels,
-        &mut list,
-        &mut spare,
-        links,
-    );
+    let mut list = [0u16; PAIRS];
+    let mut spare = [0u32; PAIRS];
+    link_chosen(neighbours, w, heights, labels, &mut list, &mut spare, links);
 }
 
-// With eight it has four: below to the left and to the right too. Work space: 96 KB, and that of choosing.
-fn link_four_each(w: usize, heights: &[u32], labels: &[u16], links: &mut [u8])
-    requires { (marks : List ℕ) × Linkable (rule_by Eight) w heights.now marks labels.now links.old }
-    ensures { PassesLinked Eight w heights.now labels.now links.old links.new }
-{
-    let mut list = [0u16; 16384];
-    let mut spare = [0u32; 16384];
-    link_chosen(
-        Neighbours::Eight,
-        w,
-        heights,
-        labels,
-        &mut list,
-        &mut spare,
-        links,
-    );
-}
-
-// Rules 3 to 6: the links of chosen passes, added to those of first receivers.
+// Rules 3 to 6: the links of chosen passes, added to those of first receivers. With four neighbours a cell has two pairs, to the right and
+// below; with eight it has four, below to the left and to the right too. Work space: 48 KB or 96 KB, and that of choosing.
 fn link_passes(neighbours: Neighbours, w: usize, heights: &[u32], labels: &[u16], links: &mut [u8])
     requires { (marks : List ℕ) × Linkable (rule_by neighbours) w heights.now marks labels.now links.old }
     ensures { PassesLinked neighbours w heights.now labels.now links.old links.new }
 {
     match neighbours {
-        Neighbours::Four => link_two_each(w, heights, labels, links),
-        Neighbours::Eight => link_four_each(w, heights, labels, links),
+        Neighbours::Four => link_in_room::<8192>(neighbours, w, heights, labels, links),
+        Neighbours::Eight => link_in_room::<16384>(neighbours, w, heights, labels, links),
     }
 }
 
@@ -157,6 +140,8 @@ fn find_links(
 }
 
 // The same with four alone: what is needed for eight has no place in the frame of who calls this.
+// Stays: a twin of `find_links`, for the bounds of the stack. With one body, called and not inlined, the lists of pairs no longer shared their
+// place with those that are needed later: the call for lakes took 311,944 bytes of its 262,144, the console's 143,816 of 114,688.
 fn find_side_links(w: usize, heights: &[u32], marks: &[u8], basins: &mut [u16], links: &mut [u8])
     requires lawful_tile { LawfulTile (rule_by Four) w heights.now marks.now }
     requires heights_in_bounds { (length heights.now ≤ length basins.old) × (length heights.now ≤ length links.old) }
@@ -173,7 +158,7 @@ fn find_side_links(w: usize, heights: &[u32], marks: &[u8], basins: &mut [u16], 
         links,
         &mut labels,
     );
-    link_two_each(w, heights, &labels[..n], links);
+    link_in_room::<8192>(Neighbours::Four, w, heights, &labels[..n], links);
 }
 
 // Rules 1 to 6: basins, and the links of the network, with a margin of 65 entries on both sides of them.

@@ -9,7 +9,9 @@ use native.Mathlib.Numerals.{add-one}
 use native.Mathlib.Omega.{arith}
 use lib.Dec.{eqb}
 use lib.ListN.{length, take}
-use lib.Seq.{get_or-take, length-take-le, take-suc}
+use lib.Seq.{get_or-take, length-take-le}
+use Rattle.std.specs.Prelude.{sum as Prelude·sum}
+use Rattle.std.proofs.lemmas.List.Sums.{sum_by-cons}
 use Rattle.lists.proofs.Keep.{keep_append}
 use Rattle.lists.proofs.Range.{range_split}
 use Rattle.lists.proofs.Sum.{sum_append, sum-most-at}
@@ -30,12 +32,10 @@ outlet_drainage-next drainage marks n =
     one true = add-zero (at drainage n)
     one false = refl
 
-sum_snoc : (l : List ℕ) (x : ℕ) → sum (l ++ (x ∷ [])) ≡ sum l + x
-sum_snoc [] x = omega arith
-sum_snoc (y ∷ ys) x = let e : sum (ys ++ (x ∷ [])) ≡ sum ys + x = sum_snoc ys x in omega arith
-
-pub sum-next : (l : List ℕ) (n : ℕ) → n < length l → sum (take (n + 1) l) ≡ sum (take n l) + at l n
-sum-next l n h = rw (add-one, take-suc l n 0) (sum_snoc (take n l) (at l n))
+-- the library's sum of a list is ours
+pub sum_same : (l : List ℕ) → Prelude·sum l ≡ sum l
+sum_same [] = refl
+sum_same (x ∷ xs) = sum_by-cons (λ (y : ℕ). y) x xs ∙ ap (λ (n : ℕ). x + n) (sum_same xs)
 
 outlet_drainage-none : (drainage marks : List ℕ) → outlet_drainage drainage marks 0 ≤ 4294967295 * 0
 unfolding outlet_drainage

@@ -5,7 +5,8 @@ use mathlib.Core.Path.{ap, refl, subst, sym, ◌∙◌, ◌≡◌}
 use Prim.Native.Nat.{ℕ, ◌+◌, ◌<◌, ◌≤◌}
 use native.Mathlib.Nat.{add-zero, zero-add}
 use native.Mathlib.Omega.{arith}
-use lib.ListN.{length, length-append, length-drop, set, take-append-drop}
+use lib.ListN.{length, length-append, length-drop, set, take, take-append-drop}
+use Rattle.lists.proofs.Overwrite.{overwrite-take}
 use lib.Seq.{length-take-le}
 use Rattle.lists.proofs.Stored.{stored_on, stored-sets}
 use Rattle.lists.specs.Lists.{stored}
@@ -54,3 +55,7 @@ wrote {new} p = record { bytes = p.bytes ∙ rw zero-add; end = p.counted ∙ sy
 -- the same text by another name
 pub printed_same : {new same old text : List ℕ} {n : ℕ} → Printed new old text n → new ≡ same → Printed same old text n
 printed_same {new} {same} {old} {text} {n} p e = subst (λ (t : List ℕ). Printed t old text n) e p
+
+-- the first bytes are what was printed
+pub printed_text : {new old text : List ℕ} {n : ℕ} → Printed new old text n → take n text ≡ new
+printed_text {new} {old} {text} {n} p = overwrite-take new old n (sym p.counted) p.bytes

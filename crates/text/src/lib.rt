@@ -54,7 +54,7 @@ pub fn write_word(text: &mut [u8], from: usize, word: &[u8]) -> usize
     requires { Fits from word.now text.old }
     ensures { Wrote from word.now text.old text.new result }
 {
-    sections::write_section_u8(text, from, word);
+    sections::write_section(text, from, word);
     from + word.len()
 }
 
@@ -118,7 +118,11 @@ fn outlet_share(drainage: &[u32], marks: &[u8], c: usize) -> u64
     requires { (c < length drainage.now) × (c < length marks.now) }
     ensures { (result ≡ cond (eqb (at marks.now c) 1) (at drainage.now c) 0) × (result < 4294967296) }
 {
-    if marks[c] == 1 { drainage[c] as u64 } else { 0 }
+    if marks[c] == 1 {
+        u64::from(drainage[c])
+    } else {
+        0
+    }
 }
 
 // The sum of the drainage of those of the first n cells that are outlets.
@@ -133,23 +137,12 @@ fn outlet_drainage(n: usize, drainage: &[u32], marks: &[u8]) -> u64
     total
 }
 
-// A cell's water as a wider number; the bound is what the sum rests on.
-fn wide(x: u16) -> u64
-    ensures { (result ≡ x) × (result < 65536) }
+// The sum of the water.
+fn total_water(water: &[u16]) -> u64
+    requires { length water.now ≤ 4096 }
+    ensures { result ≡ sum water.now }
 {
-    x as u64
-}
-
-// The sum of the water of the first n cells.
-fn total_water(n: usize, water: &[u16]) -> u64
-    requires { (n ≤ 4096) × (n ≤ length water.now) }
-    ensures { result ≡ sum (take n water.now) }
-{
-    let mut total: u64 = 0;
-    for c in 0..n {
-        total += wide(water[c]);
-    }
-    total
+    water.iter().map(|x| u64::from(*x)).sum()
 }
 
 // The first line: width, height.
@@ -192,7 +185,7 @@ pub fn write_tile(
     let first = write_size(text, width, height);
     let last = write_cells(text, first, n, receivers, levels, drainage);
     let out = outlet_drainage(n, drainage, marks);
-    let rain = total_water(n, water);
+    let rain = total_water(&water[..n]);
     write_sums(text, last, out, rain)
 }
 

@@ -25,30 +25,34 @@ use Rattle.rules.specs.Trace.{reached, refused, RunsInRing, stopped, trace, Trac
 use Rattle.rules.specs.Way.{Drains, Lawful}
 use Rattle.trace.specs.Answer.{answer_of, AtOutlet}
 use Rattle.grid.specs.declared.Neighbours.{Neighbours}
-use Rattle.trace.specs.declared.TraceAnswer.{TraceAnswer}
-use Rattle.trace.specs.declared.TraceAnswer.TheVariants.{BadCell, BadEntry, BadList, Outlet, Stopped}
+use Rattle.trace.specs.declared.TraceEnd.{TraceEnd}
+use Rattle.trace.specs.declared.TraceEnd.TheVariants.{Outlet, Stopped}
+use Rattle.trace.specs.declared.TraceRefusal.{TraceRefusal}
+use Rattle.trace.specs.declared.TraceRefusal.TheVariants.{BadCell, BadEntry, BadList}
+use Rattle.std.specs.Prelude.{Ok, Err}
+use Rattle.std.specs.declared.result.Result.{Result}
 
 -- the answer that says what the trace comes to
-answer_for : Traced → TraceAnswer
-answer_for (reached o s) = Outlet (as_cell o) s
-answer_for (stopped c s) = Stopped (as_cell c) s
-answer_for (refused n p) = cond (eqb n 2) BadList (cond (eqb n 8) BadCell (BadEntry (as_cell p)))
+answer_for : Traced → Result TraceEnd TraceRefusal
+answer_for (reached o s) = Ok (Outlet (as_cell o) s)
+answer_for (stopped c s) = Ok (Stopped (as_cell c) s)
+answer_for (refused n p) = Err (cond (eqb n 2) BadList (cond (eqb n 8) BadCell (BadEntry (as_cell p))))
 
-said : (a : TraceAnswer) → answer_for (answer_of a) ≡ a
+said : (a : Result TraceEnd TraceRefusal) → answer_for (answer_of a) ≡ a
 unfolding answer_for
-said (Outlet c s) = refl
-said (Stopped c s) = refl
-said BadList = refl
-said BadCell = refl
-said (BadEntry c) = refl
+said (Ok (Outlet c s)) = refl
+said (Ok (Stopped c s)) = refl
+said (Err BadList) = refl
+said (Err BadCell) = refl
+said (Err (BadEntry c)) = refl
 
 -- two answers that the contract allows are one
-pub trace-one : (a b : TraceAnswer) → answer_of a ≡ answer_of b → a ≡ b
+pub trace-one : (a b : Result TraceEnd TraceRefusal) → answer_of a ≡ answer_of b → a ≡ b
 trace-one a b e = sym (said a) ∙ ap answer_for e ∙ said b
 
 module _ (L : Land) (r : List ℕ) (D : Drains L r) (small : L.cells ≤ 4096) (c : ℕ) (h : c < L.cells) (s : L.solid c ≡ true) where
   -- on receivers that drain, a budget of at least the count of cells that aren't outlets makes the call answer the outlet
-  pub answers_outlet : (budget : ℕ) → length (inner_cells L) ≤ budget → (a : TraceAnswer) → answer_of a ≡ trace r c budget → AtOutlet L r c a
+  pub answers_outlet : (budget : ℕ) → length (inner_cells L) ≤ budget → (a : Result TraceEnd TraceRefusal) → answer_of a ≡ trace r c budget → AtOutlet L r c a
   unfolding answer_for
   answers_outlet budget enough a e =
       let w = D.ways c h s in
@@ -61,12 +65,12 @@ module _ (L : Land) (r : List ℕ) (D : Drains L r) (small : L.cells ≤ 4096) (
 
   -- and a larger budget gives the same answer
   pub larger_budget : (budget larger : ℕ) → length (inner_cells L) ≤ budget → length (inner_cells L) ≤ larger
-      → (a b : TraceAnswer) → answer_of a ≡ trace r c budget → answer_of b ≡ trace r c larger → a ≡ b
+      → (a b : Result TraceEnd TraceRefusal) → answer_of a ≡ trace r c budget → answer_of b ≡ trace r c larger → a ≡ b
   larger_budget budget larger l k a b e f = trace-one a b (e ∙ trace_same L r D small c h s budget larger l k ∙ sym f)
 
 -- a network's receivers are such a list
 pub network_answers_outlet : (L : Land) → Lawful L → L.cells ≤ 4096 → (c : ℕ) → c < L.cells → L.solid c ≡ true
-    → (budget : ℕ) → length (inner_cells L) ≤ budget → (a : TraceAnswer) → answer_of a ≡ trace (receivers L) c budget
+    → (budget : ℕ) → length (inner_cells L) ≤ budget → (a : Result TraceEnd TraceRefusal) → answer_of a ≡ trace (receivers L) c budget
     → AtOutlet L (receivers L) c a
 network_answers_outlet L W small = answers_outlet L (receivers L) (receivers_drain L W (λ d t. omega arith)) small
 
@@ -75,16 +79,16 @@ module _ (N : Neighbours) (g : Ground) (s : Network ℤ) (D : LeftDemand3 N g s)
   abbrev left : List ℕ
   left = take (cells_of g) s.receivers
 
-  pub left_answers_outlet : (budget : ℕ) → length (inner_cells (land_by N g)) ≤ budget → (a : TraceAnswer) → answer_of a ≡ trace left c budget
+  pub left_answers_outlet : (budget : ℕ) → length (inner_cells (land_by N g)) ≤ budget → (a : Result TraceEnd TraceRefusal) → answer_of a ≡ trace left c budget
       → AtOutlet (land_by N g) left c a
   left_answers_outlet = answers_outlet (land_by N g) left D.drains few c h refl
 
   pub left_larger_budget : (budget larger : ℕ) → length (inner_cells (land_by N g)) ≤ budget → length (inner_cells (land_by N g)) ≤ larger
-      → (a b : TraceAnswer) → answer_of a ≡ trace left c budget → answer_of b ≡ trace left c larger → a ≡ b
+      → (a b : Result TraceEnd TraceRefusal) → answer_of a ≡ trace left c budget → answer_of b ≡ trace left c larger → a ≡ b
   left_larger_budget = larger_budget (land_by N g) left D.drains few c h refl
 
 -- on a list that runs in a ring the call answers stopped, at the cell that the budget leads to, and the steps are the whole budget
 pub ring_answers_stopped : (r : List ℕ) (c : ℕ) → RunsInRing r c → length r ≤ 4096 → c < length r
-    → (budget : ℕ) (a : TraceAnswer) → answer_of a ≡ trace r c budget → a ≡ Stopped (as_cell (repeat budget (at r) c)) budget
+    → (budget : ℕ) (a : Result TraceEnd TraceRefusal) → answer_of a ≡ trace r c budget → a ≡ Ok (Stopped (as_cell (repeat budget (at r) c)) budget)
 unfolding answer_for
 ring_answers_stopped r c R few h budget a e = sym (said a) ∙ ap answer_for (e ∙ ring_stopped r c R few h budget)

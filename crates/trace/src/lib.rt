@@ -11,14 +11,21 @@ ghost use Rattle.trace.specs.Answer.{answer_of};
 ghost use Rattle.trace.specs.Ring.{OnRing, ring_length, Stays};
 
 use kinds::Cell;
+use std::error::Error;
+use std::fmt;
 
-// What a trace comes to. specs/Answer.antt gives document 01's number and values for each case.
-#[derive(Clone, Copy)]
-pub enum TraceAnswer {
+// Where a trace ends that is not refused.
+#[derive(Clone, Copy, Debug, PartialEq, Eq)]
+pub enum TraceEnd {
     // The outlet, and the steps taken.
     Outlet(Cell, u32),
     // The cell at which the budget was spent, and the steps taken.
     Stopped(Cell, u32),
+}
+
+// Why a trace is refused. specs/Answer.antt gives document 01's number and place for each case.
+#[derive(Clone, Copy, Debug, PartialEq, Eq)]
+pub enum TraceRefusal {
     // 2: the list has 0 or over 4,096 entries.
     BadList,
     // 8: the traced cell is not below the list's length.
@@ -27,19 +34,35 @@ pub enum TraceAnswer {
     BadEntry(Cell),
 }
 
+impl Error for TraceRefusal {}
+
+impl fmt::Display for TraceRefusal {
+    fn fmt<W: fmt::Write>(&self, f: &mut fmt::Formatter<W>) -> fmt::Result {
+        match self {
+            TraceRefusal::BadList => write!(f, "the list has 0 or over 4,096 entries"),
+            TraceRefusal::BadCell => write!(f, "the traced cell isn't below the list's length"),
+            TraceRefusal::BadEntry(cell) => write!(
+                f,
+                "the trace meets an entry that isn't below the list's length, in cell {}",
+                cell.0
+            ),
+        }
+    }
+}
+
 // The trace. The list and the cell can come from anybody and are judged first; the answer is the rule's for every budget.
-pub fn trace(receivers: &[u16], cell: u32, budget: u32) -> TraceAnswer
+pub fn trace(receivers: &[u16], cell: u32, budget: u32) -> Result<TraceEnd, TraceRefusal>
     ensures { answer_of result ≡ Rules·trace receivers.now cell budget }
 {
     let n = receivers.len();
     if n == 0 {
-        return TraceAnswer::BadList; // no entries
+        return Err(TraceRefusal::BadList); // no entries
     }
     if 4096 < n {
-        return TraceAnswer::BadList; // too many
+        return Err(TraceRefusal::BadList); // too many
     }
     if n <= cell as usize {
-        return TraceAnswer::BadCell;
+        return Err(TraceRefusal::BadCell);
     }
     let start = Cell(cell as u16);
     if budget as usize <= n {
@@ -50,7 +73,7 @@ pub fn trace(receivers: &[u16], cell: u32, budget: u32) -> TraceAnswer
 }
 
 // The trace move by move, with a budget of `limit` steps.
-fn walk(receivers: &[u16], start: Cell, limit: u32) -> TraceAnswer
+fn walk(receivers: &[u16], start: Cell, limit: u32) -> Result<TraceEnd, TraceRefusal>
     requires { (start.0 < length receivers.now) × (limit ≤ length receivers.now) }
     ensures { answer_of result ≡ trace_from receivers.now limit 0 start.0 }
 {
@@ -60,13 +83,13 @@ fn walk(receivers: &[u16], start: Cell, limit: u32) -> TraceAnswer
         let entry = receivers[cell as usize];
         let index = entry as usize;
         if receivers.len() <= index {
-            return TraceAnswer::BadEntry(Cell(cell));
+            return Err(TraceRefusal::BadEntry(Cell(cell)));
         }
         if entry == cell {
-            return TraceAnswer::Outlet(Cell(cell), steps);
+            return Ok(TraceEnd::Outlet(Cell(cell), steps));
         }
         if steps == limit {
-            return TraceAnswer::Stopped(Cell(cell), steps);
+            return Ok(TraceEnd::Stopped(Cell(cell), steps));
         }
         cell = entry;
         steps += 1;
@@ -75,16 +98,18 @@ fn walk(receivers: &[u16], start: Cell, limit: u32) -> TraceAnswer
 
 // The trace with a budget of more steps than the list has entries. One that has not ended after as many steps as entries never ends:
 // it is on a ring, and stops where the rest of the budget leads to on that ring.
-fn walk_on(receivers: &[u16], start: Cell, budget: u32) -> TraceAnswer
+fn walk_on(receivers: &[u16], start: Cell, budget: u32) -> Result<TraceEnd, TraceRefusal>
     requires { (start.0 < length receivers.now) × (length receivers.now ≤ 4096) × (length receivers.now < budget) }
     ensures { answer_of result ≡ trace_from receivers.now budget 0 start.0 }
 {
     let n = receivers.len() as u32;
-    let first = walk(receivers, start, n);
-    let TraceAnswer::Stopped(home, _) = first else {
-        return first;
-    };
-    TraceAnswer::Stopped(cell_on_ring(receivers, home, budget - n), budget)
+    match walk(receivers, start, n)? {
+        TraceEnd::Outlet(outlet, steps) => Ok(TraceEnd::Outlet(outlet, steps)),
+        TraceEnd::Stopped(home, _) => {
+            let last = cell_on_ring(receivers, home, budget - n);
+            Ok(TraceEnd::Stopped(last, budget))
+        }
+    }
 }
 
 // The cell that is reached from a cell on a ring by so many moves: whole rounds lead back to where they started.

@@ -17,7 +17,6 @@ ghost use Rattle.walk.specs.Walk.{lent, LentHolds, LinksWalked, Margin, Walked};
 
 use grid::Neighbours;
 use kinds::{Cell, Place};
-use lists::most_u32;
 use rules::{is_outlet, is_wet};
 use std::num::{wrapping_add_u32, wrapping_sub_u32};
 
@@ -82,26 +81,12 @@ impl Entry {
     }
 }
 
-// A mask of links as a part of an entry.
-fn wide(x: u8) -> u32
-    ensures { (result ≡ x) × (result < 256) }
-{
-    x as u32
-}
-
-// 1 where a test holds.
-fn one_if(holds: bool) -> u8
-    ensures { (result ≡ (if holds then 1 else 0)) × (result ≤ 1) }
-{
-    if holds { 1 } else { 0 }
-}
-
 // A neighbour's entry from the visited cell in both parts, what lies between, and the neighbour's links. The sums may wrap: a
 // difference below 0 is 2 ^ 32 more, and where there is no neighbour that receives to the cell, the entry isn't kept.
 fn beside(own: u32, between: u32, links: u8) -> Entry
     ensures { result.0 ≡ shifted own between links }
 {
-    Entry(wrapping_add_u32(wrapping_add_u32(own, between), wide(links)))
+    Entry(wrapping_add_u32(wrapping_add_u32(own, between), u32::from(links)))
 }
 
 // Writes an entry above the top, and keeps it where the bit is 1: what isn't kept is overwritten by the next.
@@ -207,10 +192,10 @@ fn settle(
 {
     let below = levels[receiver.0 as usize];
     let height = heights[c.0 as usize];
-    let level = most_u32(height, below);
+    let level = height.max(below);
     receivers[c.0 as usize] = receiver.0;
     levels[c.0 as usize] = level;
-    wets[c.0 as usize] = one_if(is_wet(height, level));
+    wets[c.0 as usize] = u8::from(is_wet(height, level));
 }
 
 // Takes the top entry off the stack, writes its cell next in the order, pushes what receives to it and settles it, until the stack
@@ -263,12 +248,10 @@ fn push_outlets(marks: &[u8], links: &[u8], stack: &mut [u32]) -> Place
         ++ drop (length marks.now) stack.old) }
 {
     // Between turns the entries of the outlets from cell c on stand at the top.
-    let mut c = marks.len();
     let mut top = Place(marks.len() as u16);
-    while 0 < c {
-        c -= 1;
-        let entry = Entry(BOTH * (c as u32) + wide(links[c + MARGIN]));
-        top = push(stack, top, entry, one_if(is_outlet(marks[c])));
+    for c in (0..marks.len()).rev() {
+        let entry = Entry(BOTH * (c as u32) + u32::from(links[c + MARGIN]));
+        top = push(stack, top, entry, u8::from(is_outlet(marks[c])));
     }
     top
 }
@@ -278,14 +261,12 @@ fn note_heights(heights: &[u32], levels: &mut [u32])
     requires { (length heights.now ≤ length levels.old) × (length heights.now ≤ 4096) }
     ensures { levels.new ≡ filled (at heights.now) (length heights.now) levels.old }
 {
-    let mut c = 0;
-    while c < heights.len() {
-        levels[c] = heights[c];
-        c += 1;
-    }
+    levels[..heights.len()].copy_from_slice(heights);
 }
 
 // Receivers, order, levels and wetness from the link masks. The stack is work space: what is past the cells' places stays.
+// Stays: five lists and no struct of them. Each function that took such a struct of `&mut` lists would have to promise of each of the five
+// that it is still the list that was lent, by its ghost name, without which callers learn nothing: no plainer.
 pub fn walk_links(
     neighbours: Neighbours,
     w: usize,

@@ -1,52 +1,50 @@
--- `alike::neighbour_masks` meets its contract: before the row at b all cells before b have their masks.
+-- `alike::neighbour_masks` meets its contract: before a row all cells before it have their masks.
 -- Assumes nothing.
-use mathlib.Core.Path.{ap, refl, sym, ◌∙◌, ◌≡◌}
-use Prim.Native.Nat.{ℕ, ◌+◌, ◌≤◌}
-use native.Mathlib.Nat.{mod-eq_of_lt}
+use mathlib.Core.Path.{ap, sym, ◌∙◌, ◌≡◌}
+use Prim.Native.Nat.{ℕ, ◌%◌, ◌*◌, ◌+◌, ◌/◌, ◌<◌, ◌≤◌}
+use native.Mathlib.Nat.{add-zero, div-add-mod', mul-le-mul_right, zero-mul}
 use native.Mathlib.Omega.{arith}
 use Rattle.alike.proofs.Puts.{filled_puts}
 use Rattle.alike.specs.NeighbourMasks.{neighbour_mask}
-use Rattle.grid.proofs.Rows.{row-after, row_fits}
+use Rattle.grid.proofs.Rows.{column_of, row_next}
 use Rattle.lists.proofs.Filled.{filled_none}
 use Rattle.lists.specs.Lists.{filled}
 use Rattle.alike.proofs.neighbour_masks.Goals as goal
-use Rattle.alike.proofs.neighbour_masks.Goals.{In-loop-b}
 
--- a row that starts is whole
-fits : (t : In-loop-b) → let a = t.args in
-    t.loop-b.b + a.w ≤ a.n
-fits t =
-    row_fits t.args.w t.args.n t.loop-b.b t.loop-b.invariant.0 t.requires.0.rows.whole t.loop-b-test.true
+-- all rows are n cells, and a row that starts is whole
+all : (w n : ℕ) → n % w ≡ 0 → n / w * w ≡ n
+all w n h = let e = div-add-mod' n w in omega arith
 
-pub loop-b-init : goal.loop-b-init
-loop-b-init c = (mod-eq_of_lt c.requires.0.rows.wide, omega arith, refl, sym (filled_none _ _))
+fits : (row w n : ℕ) → n % w ≡ 0 → row < n / w → row * w + w ≤ n
+fits row w n h t =
+    let m : (row + 1) * w ≤ n / w * w = mul-le-mul_right w (omega arith) in
+    let e = row_next row w in
+    let a = all w n h in
+    omega arith
+
+pub loop-row-init : goal.loop-row-init
+loop-row-init c = rw (zero-mul c.args.w) (sym (filled_none _ _))
 
 pub row_masks-requires : goal.row_masks-requires
 row_masks-requires c =
-    (c.requires.0, fits (goal.at.row_masks-requires c).In-loop-b, c.loop-b.invariant.0, omega arith)
+    let a = c.args in
+    let grid = c.requires.0 in
+    let row = c.loop-row.row in
+    let start : row * a.w % a.w ≡ 0 = ap (λ (b : ℕ). b % a.w) (sym (add-zero (row * a.w))) ∙ column_of a.w row 0 grid.rows.wide in
+    (grid, fits row a.w a.n grid.rows.whole c.loop-row-test.true, start, omega arith)
 
-pub loop-b-smaller : goal.loop-b-smaller
-loop-b-smaller c =
-    let wide = c.requires.0.rows.wide in
-    let f = fits (goal.at.loop-b-smaller c).In-loop-b in
-    omega arith
-
-pub loop-b-preserved : goal.loop-b-preserved
-loop-b-preserved c =
-    let row = c.row_masks in
-    let i = c.loop-b.invariant in (
-      row-after c.args.w c.loop-b.b i.0,
-      fits (goal.at.loop-b-preserved c).In-loop-b,
-      row.auto.out ∙ i.2,
-      filled_puts (neighbour_mask c.args.neighbours c.args.w c.args.n) c.args.out.now (omega arith)
-          (let f = fits (goal.at.loop-b-preserved c).In-loop-b in omega (arith, c.requires.1)) i.3 row.ensures,
-    )
+pub loop-row-preserved : goal.loop-row-preserved
+loop-row-preserved c =
+    let a = c.args in
+    let row = c.loop-row.row in
+    let on = fits row a.w a.n c.requires.0.rows.whole c.loop-row-test.true in
+    rw (row_next row a.w)
+    (filled_puts (neighbour_mask a.neighbours a.w a.n) a.out.now (omega arith) (omega arith) c.loop-row.invariant c.row_masks.ensures)
 
 pub returns : goal.returns
 returns c =
     let a = c.args in
-    let e : c.loop-b.b ≡ a.n = omega arith in
-    c.loop-b.invariant.3 ∙ ap (λ (k : ℕ). filled (neighbour_mask a.neighbours a.w a.n) k a.out.now) e
-
-pub shape_of-out : goal.shape_of-out
-shape_of-out c = c.loop-b.invariant.2
+    let e : c.loop-row.row ≡ a.n / a.w = omega arith in
+    c.loop-row.invariant
+    ∙ ap (λ (k : ℕ). filled (neighbour_mask a.neighbours a.w a.n) k a.out.now)
+    (ap (λ (r : ℕ). r * a.w) e ∙ all a.w a.n c.requires.0.rows.whole)

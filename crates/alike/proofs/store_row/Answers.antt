@@ -7,26 +7,18 @@ use Rattle.lists.proofs.Puts.{puts_next, puts_none, puts_to}
 use Rattle.alike.proofs.store_row.Goals as goal
 
 pub loop-x-init : goal.loop-x-init
-loop-x-init c = let a = c.args in (omega arith, puts_none _ a.b (a.b + 0) a.out.now (omega arith))
-
-pub bounds-out-b : goal.bounds-out-b
-bounds-out-b c = omega (arith, c.loop-x.invariant.1.long)
+loop-x-init c = let a = c.args in puts_none _ a.b (a.b + 0) a.out.now (omega arith)
 
 pub loop-x-preserved : goal.loop-x-preserved
 loop-x-preserved c =
     let a = c.args in
     let x = c.loop-x.x in
-    let e : a.b + x - a.b ≡ x = omega arith in (
-      omega arith,
-      puts_to _ (let q : a.b + x + 1 ≡ a.b + (x + 1) = omega arith in q)
-          (puts_next _ _ c.loop-x.invariant.1 (omega arith) (omega arith) (rw (c.bits_if.ensures.0, c.bits_if-in-loop-x.ensures.0, e))),
-    )
-
-pub shape_of-out : goal.shape_of-out
-shape_of-out c = c.loop-x.invariant.1.long
+    let e : a.b + x - a.b ≡ x = omega arith in
+    puts_to _ (let q : a.b + x + 1 ≡ a.b + (x + 1) = omega arith in q)
+    (puts_next _ _ c.loop-x.invariant (omega arith) (omega arith) (rw (c.bits_if.ensures.0, c.bits_if-in-loop-x.ensures.0, e)))
 
 pub returns : goal.returns
 returns c =
     let a = c.args in
     let e : c.loop-x.x ≡ a.w = omega arith in
-    puts_to _ (ap (λ (x : ℕ). a.b + x) e) c.loop-x.invariant.1
+    puts_to _ (ap (λ (x : ℕ). a.b + x) e) c.loop-x.invariant

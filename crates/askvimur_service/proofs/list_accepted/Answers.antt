@@ -10,7 +10,7 @@ use Rattle.askvimur_service.proofs.list_accepted.Goals as goal
 use Rattle.askvimur_service.proofs.list_accepted.Goals.{After-record_lakes-found}
 
 abbrev ground : After-record_lakes-found → Ground
-ground c = let a = c.args in ground_in a.ground.now a.width a.height
+ground c = let a = c.args in ground_in a.ground.now a.size.width a.size.height
 
 read_here : (c : After-record_lakes-found)
     → ReadFound (too_deep_on (ground c)) (lakes_on (ground c)) c.record_lakes-found.result c.record_lakes-found.new.rows

@@ -2,31 +2,20 @@
 -- Counted, led to the singular cells, looked up: each cell gets the count at its singular cell, which is the number of its basin.
 -- Assumes nothing.
 use mathlib.Core.List.{List}
-use mathlib.Core.Path.{◌≡◌}
-use Prim.Native.Nat.{ℕ, ◌≤◌}
+use Prim.Native.Nat.{ℕ}
 use native.Mathlib.Omega.{arith}
-use lib.ListN.{length, replicate}
+use lib.ListN.{replicate}
 use Rattle.basins.proofs.Numbered.{labelled, numbered, singular-within}
 use Rattle.basins.proofs.basin_numbers.Goals as goal
 
-pub number_basins-requires : goal.number_basins-requires
-number_basins-requires c =
-    let F = c.requires.first_receivers.1 in
-    (F.room, F.few, F.few)
-
-pub look_up-requires : goal.look_up-requires
-look_up-requires c =
-    let counts = c.number_basins in
+pub look_up-requires-clause-n_in_bounds : goal.look_up-requires-clause-n_in_bounds
+look_up-requires-clause-n_in_bounds c =
     let cells = c.singular_cells in
-    let L = c.requires.first_receivers.0 in
-    let F = c.requires.first_receivers.1 in
-    let a : length counts.new.numbers ≡ 4096 = counts.auto.numbers in
-    let b : length cells.new.entries ≡ length c.args.entries.now = cells.auto.entries in
-    let d : c.args.n ≤ 4096 = F.few in
-    let e : c.args.n ≤ length c.args.entries.now = F.room in record {
-      n_in_bounds = (omega arith, omega arith, singular-within L c.args.n c.args.entries.now F cells.new.entries (cells.ensures L F));
-      n_in_bounds_2 = (c.requires.n_in_bounds.0, c.requires.n_in_bounds.1, d);
-    }
+    let (L, F) = c.requires.first_receivers in (
+      omega (arith, F.few, c.number_basins.auto.numbers),
+      omega (arith, F.room, cells.auto.entries),
+      singular-within L c.args.n c.args.entries.now F cells.new.entries (cells.ensures L F),
+    )
 
 pub returns : goal.returns
 returns c =

@@ -3,8 +3,7 @@
 -- Assumes nothing.
 use mathlib.Core.List.{List}
 use mathlib.Core.Path.{◌≡◌}
-use Prim.Native.Nat.{ℕ, ◌-◌, ◌≤◌}
-use lib.ListN.{length}
+use Prim.Native.Nat.{ℕ}
 use Rattle.basins.specs.Labels.{label_by}
 use Rattle.lists.specs.Lists.{at, filled}
 use Rattle.rules.specs.Ground.{is_outlet}
@@ -19,11 +18,5 @@ labelFrom n numbers marks entries d = label_by n (is_outlet marks (at entries d)
 
 abbrev pub invariant-loop-c : goal.invariant-loop-c
 invariant-loop-c l =
-    (l.c ≤ l.n)
-    × (length l.entries ≡ length l.initial.entries)
-    × (length l.labels ≡ length l.initial.labels)
-    × (l.entries ≡ filled (number_of l.numbers l.initial.entries) l.c l.initial.entries)
+    (l.entries ≡ filled (number_of l.numbers l.initial.entries) l.c l.initial.entries)
     × (l.labels ≡ filled (labelFrom l.n l.numbers l.marks l.initial.entries) l.c l.initial.labels)
-
-abbrev pub decreases-loop-c : goal.decreases-loop-c
-decreases-loop-c l = l.n - l.c

@@ -10,20 +10,20 @@ use Rattle.drain.proofs.drain_text.Goals as goal
 pub print_tile-requires : goal.print_tile-requires
 print_tile-requires c =
     record {
-      readable = input_readable c.args.bytes.now (sym c.judge_input-judged.ensures ∙ c.in-Accepted.is);
+      readable = input_readable c.args.bytes.now (sym c.judge_input.ensures ∙ c.in-Ok.is);
       most_text_in_bounds = c.requires;
     }
 
-pub returns-in-Accepted : goal.returns-in-Accepted
+pub returns-in-Ok : goal.returns-in-Ok
 unfolding drain_text
-returns-in-Accepted c =
+returns-in-Ok c =
     let s = c.args.bytes.now in
     printed_same c.print_tile.ensures
-    (sym (accepted_text ground_text s (sym c.judge_input-judged.ensures ∙ c.in-Accepted.is)))
+    (sym (accepted_text ground_text s (sym c.judge_input.ensures ∙ c.in-Ok.is)))
 
-pub returns-in-Refused : goal.returns-in-Refused
+pub returns-in-Err : goal.returns-in-Err
 unfolding drain_text
-returns-in-Refused c =
+returns-in-Err c =
     let s = c.args.bytes.now in
     printed_same c.write_refusal.ensures
-    (sym (refused_text_lem ground_text s (sym c.judge_input-judged.ensures ∙ c.in-Refused.is)))
+    (sym (refused_text_lem ground_text s (sym c.judge_input.ensures ∙ c.in-Err.is)))

@@ -23,7 +23,7 @@ walk_record-requires c =
 
 pub print_lists-requires : goal.print_lists-requires
 print_lists-requires c =
-    let g = ground_in c.args.bytes.now c.args.width c.args.height in
+    let g = ground_in c.args.bytes.now c.args.size.width c.args.size.height in
     let n = cells_of g in
     let net = lifted_network_of g in
     let F = network_full Four Carve g c.requires.readable.good in

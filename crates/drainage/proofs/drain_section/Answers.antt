@@ -1,13 +1,13 @@
 -- `drainage::drain_section` meets its contract. The cells' own water is written, and then each gives backwards through the order.
 -- Assumes nothing.
 use mathlib.Core.List.{List}
-use mathlib.Core.Path.{ap, ◌∙◌, ◌≡◌}
+use mathlib.Core.Path.{ap, sym, ◌∙◌, ◌≡◌}
 use Prim.Native.Nat.{ℕ, ◌*◌, ◌+◌, ◌<◌}
 use native.Mathlib.Omega.{arith}
 use Rattle.drainage.proofs.Backwards.{drained_own}
-use Rattle.lists.proofs.Filled.{filled_at}
+use Rattle.lists.proofs.Filled.{filled_at, filled_same}
 use Rattle.lists.proofs.Tab.{tab-at}
-use Rattle.lists.specs.Lists.{at}
+use Rattle.lists.specs.Lists.{at, tab}
 use Rattle.sections.proofs.Numbers.{number_at-below}
 use Rattle.sections.specs.LittleEndian.{number_at, numbers_at}
 use Rattle.drainage.proofs.drain_section.Goals as goal
@@ -24,8 +24,7 @@ give_all-requires at-goal =
       n_in_bounds = (
         omega arith,
         λ c h. let e : at own.new.drainage c ≡ number_at 2 s (from + 2 * c) =
-            ap (λ (l : List ℕ). at l c) own.ensures ∙ filled_at (at (numbers_at 2 s from n)) n at-goal.args.drainage.now c h
-            ∙ tab-at (λ k. number_at 2 s (from + 2 * k)) n c 0 h in
+            ap (λ (l : List ℕ). at l c) own.ensures ∙ filled_at (λ k. number_at 2 s (from + 2 * k)) n at-goal.args.drainage.now c h in
             let small : number_at 2 s (from + 2 * c) < 65536 =
             number_at-below 2 s (from + 2 * c)
             (λ k l. omega (arith, at-goal.shared_slice_known-1.given k)) (omega arith) in
@@ -38,5 +37,7 @@ returns c =
     let own = c.section_water in
     let gave = c.give_all in
     let n = c.args.n in
+    let water : ℕ → ℕ = λ k. number_at 2 c.args.bytes.now (c.args.from + 2 * k) in
+    let listed = filled_same water (at (tab n water)) n c.args.drainage.now (λ k h. sym (tab-at water n k 0 h)) in
     λ L r G. drained_own L r (numbers_at 2 c.args.bytes.now c.args.from n) c.args.drainage.now own.new.drainage
-    gave.new.drainage n G.cells own.ensures (gave.ensures L r G)
+    gave.new.drainage n G.cells (own.ensures ∙ listed) (gave.ensures L r G)

@@ -35,7 +35,7 @@ loop-place-init c =
     (omega arith, refl, λ L r G. given_none L r c.args.n c.args.order.now c.args.receivers.now G c.args.drainage.now)
 
 pub give-requires : goal.give-requires
-give-requires c = let t = turn (goal.at.give-requires c).In-loop-place in record {
+give-requires c = let t = turn (goal.at.give-requires c).In-loop-place in rw c.index.ensures.0 record {
   c_in_bounds = (omega (arith, t.0), omega (arith, t.1));
   c_bound = t.2;
 }
@@ -45,7 +45,7 @@ loop-place-preserved c =
     let gave = c.give in (
       omega arith,
       gave.auto.drainage ∙ c.loop-place.invariant.1,
-      λ L r G. rw gave.ensures (given_next L r c.args.n c.args.order.now c.args.receivers.now G c.args.drainage.now
+      λ L r G. rw (gave.ensures, c.index.ensures.0) (given_next L r c.args.n c.args.order.now c.args.receivers.now G c.args.drainage.now
           c.loop-place.drainage c.loop-place.place (c.loop-place.invariant.2 L r G)
           c.loop-place-test.true c.loop-place.invariant.0 c.requires.n_in_bounds.0),
     )
@@ -64,14 +64,11 @@ offset_bounds-order-place c = omega (arith, within (goal.at.offset_bounds-order-
 pub bounds-order-place : goal.bounds-order-place
 bounds-order-place c = omega (arith, within (goal.at.bounds-order-place c).In-loop-place)
 
-pub overflow_cast-receiver : goal.overflow_cast-receiver
-overflow_cast-receiver c = omega (arith, within (goal.at.overflow_cast-receiver c).In-loop-place)
+pub offset_bounds-receivers-index : goal.offset_bounds-receivers-index
+offset_bounds-receivers-index c = omega (arith, c.index.ensures.0, within (goal.at.offset_bounds-receivers-index c).In-loop-place)
 
-pub offset_bounds-receivers-c : goal.offset_bounds-receivers-c
-offset_bounds-receivers-c c = omega (arith, within (goal.at.offset_bounds-receivers-c c).In-loop-place)
-
-pub bounds-receivers-c : goal.bounds-receivers-c
-bounds-receivers-c c = omega (arith, within (goal.at.bounds-receivers-c c).In-loop-place)
+pub bounds-receivers-index : goal.bounds-receivers-index
+bounds-receivers-index c = omega (arith, c.index.ensures.0, within (goal.at.bounds-receivers-index c).In-loop-place)
 
 pub loop-place-smaller : goal.loop-place-smaller
 loop-place-smaller c = omega (arith, c.loop-place-test.true)

@@ -1,16 +1,11 @@
 -- `first_receivers::led_to` meets its contract: the selects go through the bits of the sides, and with eight neighbours through those of the
 -- corners.
 -- Assumes nothing.
-use Rattle.std.proofs.Common.{subst, arith, rules}
+use Rattle.std.proofs.Common.{subst, rules}
 use Rattle.first_receivers.proofs.Selects.{eight_led, four_led}
 use Rattle.first_receivers.specs.Weights.{Placed}
 use Rattle.grid.specs.declared.Neighbours.{Neighbours}
 use Rattle.first_receivers.proofs.led_to.Goals as goal
-
-pub led_to_corner-requires : goal.led_to_corner-requires
-led_to_corner-requires c =
-    let (n, d, G, on, P) = c.requires in
-    (G.rows.wide, G.narrow, omega (arith, G.few))
 
 pub returns-in-Four : goal.returns-in-Four
 returns-in-Four c =

@@ -11,4 +11,4 @@ returns c =
     let s = c.args.bytes.now in
     let n = (length s - 8) / 2 in
     let e = overwrite-take (numbers_at 2 s 8 n) (replicate 4096 0) n (tab-length (λ k. number_at 2 s (8 + 2 * k)) n) refl in
-    c.trace.ensures ∙ rw (c.read_section_u16.ensures, e, c.read_u32-cell.ensures, c.read_u32-budget.ensures)
+    c.trace.ensures ∙ rw (c.read_section.ensures, e, c.read-cell.ensures, c.read-budget.ensures)

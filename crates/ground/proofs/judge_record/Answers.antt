@@ -12,5 +12,5 @@ returns-then-bytes-lt16 c =
 pub returns : goal.returns
 unfolding judge_record
 returns c =
-    rw (le-leb 16 _ c.if-bytes-lt16.false, ← c.read_u16-height.ensures, ← c.read_u16-width.ensures)
+    rw (le-leb 16 _ c.if-bytes-lt16.false, ← c.read-height.ensures, ← c.read-width.ensures)
     c.judge_sized.ensures

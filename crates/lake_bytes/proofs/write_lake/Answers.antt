@@ -15,7 +15,7 @@ returns c =
     let bits = c.drop_bits.ensures ∙ ap dropped_bits c.level_in.ensures in
     let put : (w k : ℕ) (l : List ℕ) → ℕ → List ℕ = λ w k l x. stored (a.from + k) (bytes_of w x) l in
     lake-written a.rows.now a.i a.from a.out.now c.requires.0 c.requires.2
-    (c.write_u32.ensures ∙ ap (λ (x : ℕ). stored a.from (bytes_of 4 x) a.out.now) bits)
-    (c.write_u16.ensures ∙ ap (put 2 4 c.write_u32.new.bytes) c.count_in.ensures)
-    (c.write_u16-2.ensures ∙ ap (put 2 6 c.write_u16.new.bytes) c.least_in.ensures)
-    (c.write_u64.ensures ∙ ap (put 8 8 c.write_u16-2.new.bytes) c.volume_in.ensures)
+    (c.write.ensures ∙ ap (λ (x : ℕ). stored a.from (bytes_of 4 x) a.out.now) bits)
+    (c.write-2.ensures ∙ ap (put 2 4 c.write.new.bytes) c.count_in.ensures)
+    (c.write-3.ensures ∙ ap (put 2 6 c.write-2.new.bytes) c.least_in.ensures)
+    (c.write-4.ensures ∙ ap (put 8 8 c.write-3.new.bytes) c.volume_in.ensures)

@@ -2,7 +2,7 @@
 -- lake that is too deep, or with all of them listed.
 -- Assumes nothing.
 use mathlib.Core.List.{◌++◌}
-use mathlib.Core.Path.{refl}
+use mathlib.Core.Path.{ap, refl, sym, ◌∙◌, ◌≡◌}
 use Prim.Native.Nat.{ℕ, ◌+◌, ◌-◌, ◌<◌}
 use native.Mathlib.Omega.{arith}
 use lib.ListN.{length}
@@ -13,8 +13,13 @@ use Rattle.lake_list.proofs.Walking.{Turn, turn, walk_starts, Walked}
 use Rattle.lake_list.specs.Listing.{NotedLakes, Room}
 use Rattle.lake_rules.specs.Lakes.{level_of}
 use Rattle.lists.specs.Lists.{at}
+use Rattle.std.specs.Prelude.{Err, None}
+use Rattle.std.specs.Option.{ok_or}
+use Rattle.std.proofs.lemmas.Result.{err_from_is_err_and}
+use Rattle.std.specs.Result.{result_ok}
+use Rattle.lake_list.specs.Rows.{too_deep_at}
 use Rattle.lake_list.proofs.list_outermost.Goals as goal
-use Rattle.lake_list.proofs.list_outermost.Goals.{After-list_lake-next, In-loop-x}
+use Rattle.lake_list.proofs.list_outermost.Goals.{After-list_lake-listed, In-loop-x}
 
 -- what a turn of the loop finds
 module _ (c : In-loop-x) where
@@ -56,16 +61,16 @@ module _ (c : In-loop-x) where
   on_tile_fact = omega (arith, first-on_tile c.args.levels.now lakes c.args.rows.now (walked lakes) (this lakes), c.requires.room.2)
 
 -- what it leaves
-module _ (c : After-list_lake-next) where
+module _ (c : After-list_lake-listed) where
   abbrev tn : In-loop-x
-  tn = (goal.at.After-list_lake-next c).In-loop-x
+  tn = (goal.at.After-list_lake-listed c).In-loop-x
 
-  still : Kept c.args.cells.now (put_mid (from_cell tn) (cells_of tn) c.loop-x.cells c.list_lake-next.new.cells)
-      c.args.spare.now (put_mid (from_cell tn) (cells_of tn) c.loop-x.spare c.list_lake-next.new.spare)
-      c.args.ends.now (put_mid (from_end tn) (length c.loop-x.ends - from_end tn) c.loop-x.ends c.list_lake-next.new.ends)
-      c.args.index.now c.list_lake-next.new.index c.args.rows.now c.list_lake-next.new.rows
+  still : Kept c.args.cells.now (put_mid (from_cell tn) (cells_of tn) c.loop-x.cells c.list_lake-listed.new.cells)
+      c.args.spare.now (put_mid (from_cell tn) (cells_of tn) c.loop-x.spare c.list_lake-listed.new.spare)
+      c.args.ends.now (put_mid (from_end tn) (length c.loop-x.ends - from_end tn) c.loop-x.ends c.list_lake-listed.new.ends)
+      c.args.index.now c.list_lake-listed.new.index c.args.rows.now c.list_lake-listed.new.rows
   still =
-      let l = c.list_lake-next in
+      let l = c.list_lake-listed in
       kept_on (from_cell tn) (cells_of tn) (from_end tn) l.new.cells l.new.spare l.new.ends l.new.index l.new.rows (held tn)
       l.auto.cells l.auto.spare l.auto.ends l.auto.index l.auto.rows
 
@@ -112,9 +117,9 @@ slice_bounds-list_lake-start-in-loop-x-2 c = let b = bounds (goal.at.slice_bound
 pub bounds-levels-first : goal.bounds-levels-first
 bounds-levels-first c = omega (arith, on_tile_fact (goal.at.bounds-levels-first c).In-loop-x, c.requires.room.2, c.requires.noted_lakes.notes.few)
 
-pub list_lake-next-requires : goal.list_lake-next-requires
-list_lake-next-requires c =
-    let q = (goal.at.list_lake-next-requires c).In-loop-x in
+pub list_lake-listed-requires : goal.list_lake-listed-requires
+list_lake-listed-requires c =
+    let q = (goal.at.list_lake-listed-requires c).In-loop-x in
     let a = c.args in
     let K = lakes q in record {
       noted_lake = first-lake a.levels.now K a.rows.now (walked q K) (this q K);
@@ -124,13 +129,19 @@ list_lake-next-requires c =
       );
     }
 
-pub returns-then-next-eq-NO_PLACE : goal.returns-then-next-eq-NO_PLACE
-returns-then-next-eq-NO_PLACE c =
-    let q = (goal.at.returns-then-next-eq-NO_PLACE c).In-loop-x in
+-- the answer to a lake that is too deep
+pub returns-in_err-next : goal.returns-in_err-next
+returns-in_err-next c =
+    let q = (goal.at.returns-in_err-next c).In-loop-x in
     let a = c.args in
-    λ K. found_deep a.levels.now K a.rows.now (walked q K) (this q K)
+    let over : c.list_lake-listed.result ≡ None = c.ok_or.ensures.ok_part ∙ ap result_ok c.in_err-next.was in
+    let first = too_deep_at (at c.loop-x.cells (from_cell q)) in
+    let told : c.from_residual.result ≡ Err first =
+    (let d = err_from_is_err_and c.from_residual.result c.from_residual.ensures.1 in d.1 ∙ ap Err d.2) ∙ sym c.in_err-next.was ∙ c.ok_or.ensures.value
+    ∙ ap (λ o. ok_or o first) over in
+    λ K. found_deep a.levels.now K a.rows.now (walked q K) (this q K) told
     (turn_over K 64 0 a.rows.now (walked q K) (this q K) (held q) (room q)
-    (first-told a.levels.now K a.rows.now (walked q K) (this q K) c.list_lake-next.ensures) c.if-next-eq-NO_PLACE.true)
+    (first-told a.levels.now K a.rows.now (walked q K) (this q K) c.list_lake-listed.ensures) over)
 
 pub loop-x-preserved : goal.loop-x-preserved
 loop-x-preserved c =
@@ -138,10 +149,11 @@ loop-x-preserved c =
     let a = c.args in
     let e = c.loop-x.ends in (
       omega (arith, c.loop-x-test.true),
-      still (goal.at.loop-x-preserved c).After-list_lake-next,
+      still (goal.at.loop-x-preserved c).After-list_lake-listed,
       λ K. turn_again K 64 0 a.rows.now (walked q K) (this q K) (held q) (room q)
-          (first-told a.levels.now K a.rows.now (walked q K) (this q K) c.list_lake-next.ensures) c.if-next-eq-NO_PLACE.false c.list_lake-next.new.cells
-          (c.list_lake-next.new.ends ++ post_of (from_end q) (length e - from_end q) e) refl c.list_lake-next.auto.cells,
+          (first-told a.levels.now K a.rows.now (walked q K) (this q K) c.list_lake-listed.ensures)
+          (c.ok_or.ensures.ok_part ∙ ap result_ok c.in_ok-next.was) c.list_lake-listed.new.cells
+          (c.list_lake-listed.new.ends ++ post_of (from_end q) (length e - from_end q) e) refl c.list_lake-listed.auto.cells,
     )
 
 pub overflow_cast-result : goal.overflow_cast-result

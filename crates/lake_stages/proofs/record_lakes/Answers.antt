@@ -21,7 +21,7 @@ use Rattle.lake_stages.proofs.record_lakes.Goals.{After-lift_record}
 abbrev count : After-lift_record → ℕ
 count c = c.cells-n.result
 
-counted : (c : After-lift_record) → count c ≡ c.args.height * c.args.width
+counted : (c : After-lift_record) → count c ≡ c.args.size.height * c.args.size.width
 counted c = c.cells-n.ensures
 
 -- the lifted heights, as they were left
@@ -30,15 +30,15 @@ heights c = c.lift_record.new.out
 
 heights_read : (c : After-lift_record)
     → let a = c.args in
-    take (count c) (heights c) ≡ map lifted (ground_in a.bytes.now a.width a.height).heights
+    take (count c) (heights c) ≡ map lifted (ground_in a.bytes.now a.size.width a.size.height).heights
 heights_read c =
     let a = c.args in
-    heights_are a.bytes.now a.width a.height c.requires.readable.good (replicate 4096 0) (count c) (counted c) c.lift_record.ensures
+    heights_are a.bytes.now a.size.width a.size.height c.requires.readable.good (replicate 4096 0) (count c) (counted c) c.lift_record.ensures
 
-heights-long : (c : After-lift_record) → length (take (count c) (heights c)) ≡ c.args.height * c.args.width
+heights-long : (c : After-lift_record) → length (take (count c) (heights c)) ≡ c.args.size.height * c.args.size.width
 heights-long c =
     let a = c.args in
-    read_full Four a.bytes.now a.width a.height c.requires.readable.good (count c) (counted c) (heights c) (heights_read c)
+    read_full Four a.bytes.now a.size.width a.size.height c.requires.readable.good (count c) (counted c) (heights c) (heights_read c)
 
 pub lift_record-requires : goal.lift_record-requires
 lift_record-requires c =
@@ -47,7 +47,7 @@ lift_record-requires c =
     let z = c.cells-n.ensures in
     let f = R.few in
     let l = R.long in
-    (omega arith, omega arith, in_range-at a.bytes.now a.width a.height R.good c.cells-n.result z)
+    (omega arith, omega arith, in_range-at a.bytes.now a.size.width a.size.height R.good c.cells-n.result z)
 
 pub slice_bounds-tile_lakes-end : goal.slice_bounds-tile_lakes-end
 slice_bounds-tile_lakes-end c =
@@ -60,7 +60,7 @@ tile_lakes-requires c =
     let a = c.args in
     let long = heights-long at-place in
     let room = c.requires.width_in_bounds in record {
-      lawful_tile = read_tile Four a.bytes.now a.width a.height c.requires.readable.good (count at-place) (counted at-place) (heights at-place)
+      lawful_tile = read_tile Four a.bytes.now a.size.width a.size.height c.requires.readable.good (count at-place) (counted at-place) (heights at-place)
           (heights_read at-place);
       heights_in_bounds = omega (arith, long, room);
     }
@@ -71,5 +71,6 @@ returns c =
     let at-place = (goal.at.returns c).After-lift_record in
     let a = c.args in
     subst (λ (L : Land). FoundIn L (levels_on L) c.tile_lakes.result c.tile_lakes.new.rows)
-    (read_land Four a.bytes.now a.width a.height c.requires.readable.good (count at-place) (counted at-place) (heights at-place) (heights_read at-place))
+    (read_land Four a.bytes.now a.size.width a.size.height c.requires.readable.good (count at-place) (counted at-place) (heights at-place)
+    (heights_read at-place))
     c.tile_lakes.ensures

@@ -9,20 +9,20 @@ use Rattle.lakes.proofs.lakes_text.Goals as goal
 pub print_lakes-requires : goal.print_lakes-requires
 print_lakes-requires c =
     record {
-      readable = input_readable c.args.bytes.now (sym c.judge_input-judged.ensures ∙ c.in-Accepted.is);
+      readable = input_readable c.args.bytes.now (sym c.judge_input.ensures ∙ c.in-Ok.is);
       most_lakes_text_in_bounds = c.requires;
     }
 
-pub returns-in-Accepted : goal.returns-in-Accepted
+pub returns-in-Ok : goal.returns-in-Ok
 unfolding lakes_program_text
-returns-in-Accepted c =
+returns-in-Ok c =
     let s = c.args.bytes.now in
     printed_same c.print_lakes.ensures
-    (sym (accepted_text ground_lakes_text s (sym c.judge_input-judged.ensures ∙ c.in-Accepted.is)))
+    (sym (accepted_text ground_lakes_text s (sym c.judge_input.ensures ∙ c.in-Ok.is)))
 
-pub returns-in-Refused : goal.returns-in-Refused
+pub returns-in-Err : goal.returns-in-Err
 unfolding lakes_program_text
-returns-in-Refused c =
+returns-in-Err c =
     let s = c.args.bytes.now in
     printed_same c.write_refusal.ensures
-    (sym (refused_text_lem ground_lakes_text s (sym c.judge_input-judged.ensures ∙ c.in-Refused.is)))
+    (sym (refused_text_lem ground_lakes_text s (sym c.judge_input.ensures ∙ c.in-Err.is)))

@@ -1,13 +1,13 @@
 -- `lakes::print_lakes` meets its contract: the lakes are printed out of their rows, and a lake that is too deep is refused with 10.
 -- Assumes nothing.
 use mathlib.Core.List.{List}
-use Prim.Native.Nat.{ℕ}
 use native.Mathlib.Omega.{arith}
 use Rattle.ground.specs.Record.{ground_in}
 use Rattle.lake_stages.proofs.FoundLakes.{found_read}
 use Rattle.lake_stages.proofs.ReadLakes.{lakes_found}
 use Rattle.lake_stages.specs.LakesOn.{lakes_on, too_deep_on}
 use Rattle.lake_stages.specs.ReadFound.{ReadFound}
+use Rattle.lake_list.specs.declared.Row.{Row}
 use Rattle.lakes.proofs.Finding.{deep_text, listed_text}
 use Rattle.rules.specs.Ground.{Ground}
 use Rattle.text.proofs.Writing.{printed_same}
@@ -15,9 +15,9 @@ use Rattle.lakes.proofs.print_lakes.Goals as goal
 use Rattle.lakes.proofs.print_lakes.Goals.{After-record_lakes-found}
 
 abbrev ground : After-record_lakes-found → Ground
-ground c = let a = c.args in ground_in a.bytes.now a.width a.height
+ground c = let a = c.args in ground_in a.bytes.now a.size.width a.size.height
 
-abbrev rows : After-record_lakes-found → List ℕ
+abbrev rows : After-record_lakes-found → List Row
 rows c = c.record_lakes-found.new.rows
 
 read_here : (c : After-record_lakes-found) → ReadFound (too_deep_on (ground c)) (lakes_on (ground c)) c.record_lakes-found.result (rows c)
@@ -34,19 +34,19 @@ record_lakes-found-requires c = record {
 
 pub write_lakes-requires : goal.write_lakes-requires
 write_lakes-requires c =
-    let K = lakes_found (read_here (goal.at.write_lakes-requires c).After-record_lakes-found) c.in-Lakes.is in
+    let K = lakes_found (read_here (goal.at.write_lakes-requires c).After-record_lakes-found) c.in-Ok.is in
     let long = c.record_lakes-found.auto.rows in
     record {
       n_bound = (omega (arith, K.held), K.held, K.fit);
       most_lakes_text_in_bounds = c.requires.most_lakes_text_in_bounds;
     }
 
-pub returns-in-Lakes : goal.returns-in-Lakes
-returns-in-Lakes c =
-    let at-place = (goal.at.returns-in-Lakes c).After-record_lakes-found in
-    printed_same c.write_lakes.ensures (listed_text (ground at-place) (read_here at-place) c.in-Lakes.is)
+pub returns-in-Ok : goal.returns-in-Ok
+returns-in-Ok c =
+    let at-place = (goal.at.returns-in-Ok c).After-record_lakes-found in
+    printed_same c.write_lakes.ensures (listed_text (ground at-place) (read_here at-place) c.in-Ok.is)
 
-pub returns-in-TooDeep : goal.returns-in-TooDeep
-returns-in-TooDeep c =
-    let at-place = (goal.at.returns-in-TooDeep c).After-record_lakes-found in
-    printed_same c.write_refused.ensures (deep_text (ground at-place) (read_here at-place) c.in-TooDeep.is)
+pub returns-in-Err : goal.returns-in-Err
+returns-in-Err c =
+    let at-place = (goal.at.returns-in-Err c).After-record_lakes-found in
+    printed_same c.write_refused.ensures (deep_text (ground at-place) (read_here at-place) c.in-Err.is)

@@ -33,6 +33,3 @@ returns c =
     let a = c.args in
     pass_all a.after a.before a.weights.now a.weight a.more c.loop-c.c a.n a.links.now c.loop-c.links
     (omega arith) c.loop-c.invariant.2
-
-pub shape_of-links : goal.shape_of-links
-shape_of-links c = c.loop-c.invariant.2.size

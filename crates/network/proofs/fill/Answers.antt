@@ -57,7 +57,7 @@ worked : (c : After-work_out)
 worked c =
     let g = ground (goal.at.After-work_out c).After-lift_heights in
     let net : Land → Network ℕ = λ L. onto (lifted_network_in c.args.manner L g.water) (before c) in
-    c.work_out.ensures
+    rw c.from-w.ensures at c.work_out.ensures
     ∙ ap (λ (l : List ℕ). net (tile_land (rule_by c.args.neighbours) g.width l g.marks)) (heights_here (goal.at.After-work_out c).After-lift_heights)
     ∙ ap net (tile-is-land c.args.neighbours g (good (goal.at.After-work_out c).After-lift_heights))
 
@@ -97,8 +97,9 @@ work_out-requires c =
     let m : length (take (count at-place) c.lift_heights.new.out) ≡ cells_of g = ap length t ∙ lifted_full g G in
     let H = c.requires.1 in record {
       lawful_tile = (
-        subst (λ (l : List ℕ). LawfulTile (rule_by c.args.neighbours) g.width l g.marks) (sym t)
-            (good_tile g G c.args.neighbours),
+        rw c.from-w.ensures
+            (subst (λ (l : List ℕ). LawfulTile (rule_by c.args.neighbours) g.width l g.marks) (sym t)
+            (good_tile g G c.args.neighbours)),
         G.water_full ∙ sym m,
       );
       holds = record {

@@ -22,8 +22,8 @@ returns c =
     let d3 = d2 ++ bytes_of 4 (11 * n) in
     let d4 = d3 ++ bytes_of 4 (9 * n) in
     let d5 = d4 ++ bytes_of 4 (5 * n) in
-    let e2 = stored_on d1 (bytes_of 4 (13 * n)) bytes from (from + 4) refl (omega arith) c.write_u32.ensures c.write_u32-2.ensures in
-    let e3 = stored_on d2 (bytes_of 4 (11 * n)) bytes from (from + 8) refl (omega arith) e2 c.write_u32-3.ensures in
-    let e4 = stored_on d3 (bytes_of 4 (9 * n)) bytes from (from + 12) refl (omega arith) e3 c.write_u32-4.ensures in
-    let e5 = stored_on d4 (bytes_of 4 (5 * n)) bytes from (from + 16) refl (omega arith) e4 c.write_u32-5.ensures in
-    stored_on d5 (bytes_of 4 n) bytes from (from + 20) refl (omega arith) e5 c.write_u32-6.ensures
+    let e2 = stored_on d1 (bytes_of 4 (13 * n)) bytes from (from + 4) refl (omega arith) c.write.ensures c.write-2.ensures in
+    let e3 = stored_on d2 (bytes_of 4 (11 * n)) bytes from (from + 8) refl (omega arith) e2 c.write-3.ensures in
+    let e4 = stored_on d3 (bytes_of 4 (9 * n)) bytes from (from + 12) refl (omega arith) e3 c.write-4.ensures in
+    let e5 = stored_on d4 (bytes_of 4 (5 * n)) bytes from (from + 16) refl (omega arith) e4 c.write-5.ensures in
+    stored_on d5 (bytes_of 4 n) bytes from (from + 20) refl (omega arith) e5 c.write-6.ensures

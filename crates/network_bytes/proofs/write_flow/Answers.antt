@@ -11,24 +11,6 @@ use Rattle.lists.proofs.Overwrite.{overwrite-next}
 use Rattle.network_bytes.specs.NetworkRecord.{flow_sections}
 use Rattle.network_bytes.proofs.write_flow.Goals as goal
 
-pub slice_bounds-write_section_u16-end : goal.slice_bounds-write_section_u16-end
-slice_bounds-write_section_u16-end c = simp length-take (omega arith)
-
-pub write_section_u16-requires : goal.write_section_u16-requires
-write_section_u16-requires c = simp length-take (omega arith)
-
-pub slice_bounds-write_section_u16-end-2 : goal.slice_bounds-write_section_u16-end-2
-slice_bounds-write_section_u16-end-2 c = simp length-take (omega arith)
-
-pub write_section_u16-requires-2 : goal.write_section_u16-requires-2
-write_section_u16-requires-2 c = simp length-take (omega arith)
-
-pub slice_bounds-write_section_u16-end-3 : goal.slice_bounds-write_section_u16-end-3
-slice_bounds-write_section_u16-end-3 c = simp length-take (omega arith)
-
-pub write_section_u16-requires-3 : goal.write_section_u16-requires-3
-write_section_u16-requires-3 c = simp length-take (omega arith)
-
 pub returns : goal.returns
 unfolding flow_sections
 returns c =
@@ -38,6 +20,6 @@ returns c =
     let o = section_of 2 (take a.n a.order.now) in
     let lr : length r ≡ 2 * a.n = simp (length-section_of, length-take) (omega (arith, c.requires)) in
     let lrb : length (r ++ b) ≡ 4 * a.n = simp (length-append, length-section_of, length-take) (omega (arith, c.requires)) in
-    let first = overwrite-next [] r a.bytes.now 0 refl refl c.write_section_u16.ensures in
-    let second = overwrite-next r b a.bytes.now (2 * a.n) lr first c.write_section_u16-2.ensures in
-    overwrite-next (r ++ b) o a.bytes.now (4 * a.n) lrb second c.write_section_u16-3.ensures
+    let first = overwrite-next [] r a.bytes.now 0 refl refl c.write_section.ensures in
+    let second = overwrite-next r b a.bytes.now (2 * a.n) lr first c.write_section-2.ensures in
+    overwrite-next (r ++ b) o a.bytes.now (4 * a.n) lrb second c.write_section-3.ensures

@@ -22,5 +22,5 @@ returns c =
     let n : c.cells.result ≡ a.height * a.width = c.cells.ensures.0 in
     let l : a.from + 4 + length d ≤ length a.bytes.now = rw (length-distances (a.height * a.width)) (omega arith) in
     let size =
-    stored_on w h a.bytes.now a.from (a.from + 2) refl (omega arith) c.write_u16.ensures c.write_u16-2.ensures in
+    stored_on w h a.bytes.now a.from (a.from + 2) refl (omega arith) c.write.ensures c.write-2.ensures in
     stored_on (w ++ h) d a.bytes.now a.from (a.from + 4) refl l size (rw (← n) c.write_distances.ensures)

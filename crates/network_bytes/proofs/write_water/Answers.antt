@@ -7,30 +7,15 @@ use native.Mathlib.Omega.{arith}
 use lib.ListN.{length, length-append, length-map, length-take, take}
 use Rattle.heights.proofs.HeightSections.{length-height_section}
 use Rattle.heights.specs.Bits.{height_section}
-use Rattle.sections.proofs.Sections.{length-section_of}
+use Rattle.sections.proofs.Sections.{length-section_of, section_of_bytes}
 use Rattle.sections.specs.LittleEndian.{section_of}
 use Rattle.lists.proofs.Stored.{stored_on}
 use Rattle.network_bytes.specs.NetworkRecord.{water_sections}
 use Rattle.rules.specs.Ground.{dropped}
 use Rattle.network_bytes.proofs.write_water.Goals as goal
 
-pub slice_bounds-write_section_levels-end : goal.slice_bounds-write_section_levels-end
-slice_bounds-write_section_levels-end c = simp length-take (omega arith)
-
 pub write_section_levels-requires : goal.write_section_levels-requires
 write_section_levels-requires c = (simp length-take (omega arith), c.requires.n_bound.2)
-
-pub slice_bounds-write_section_u32-end : goal.slice_bounds-write_section_u32-end
-slice_bounds-write_section_u32-end c = simp length-take (omega arith)
-
-pub write_section_u32-requires : goal.write_section_u32-requires
-write_section_u32-requires c = simp length-take (omega arith)
-
-pub slice_bounds-write_section_u8-end : goal.slice_bounds-write_section_u8-end
-slice_bounds-write_section_u8-end c = simp length-take (omega arith)
-
-pub write_section_u8-requires : goal.write_section_u8-requires
-write_section_u8-requires c = simp length-take (omega arith)
 
 pub returns : goal.returns
 unfolding water_sections
@@ -47,5 +32,5 @@ returns c =
     let lt : length t ≡ a.n = simp length-take (omega (arith, c.requires)) in
     let both =
     stored_on l d bytes (6 * a.n) (10 * a.n) (omega arith) (omega arith) c.write_section_levels.ensures
-    c.write_section_u32.ensures in
-    stored_on (l ++ d) t bytes (6 * a.n) (14 * a.n) (omega arith) (omega arith) both c.write_section_u8.ensures
+    c.write_section.ensures in
+    stored_on (l ++ d) t bytes (6 * a.n) (14 * a.n) (omega arith) (omega arith) both (rw (section_of_bytes t) at c.write_section-2.ensures)

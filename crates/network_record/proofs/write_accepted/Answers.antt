@@ -12,7 +12,7 @@ use Rattle.network_record.proofs.write_accepted.Goals as goal
 
 pub write_linked-requires : goal.write_linked-requires
 write_linked-requires c =
-    let g = ground_in c.args.bytes.now c.args.width c.args.height in
+    let g = ground_in c.args.bytes.now c.args.size.width c.args.size.height in
     let linked = c.link_record.ensures in
     let full = (network_full c.args.neighbours Carve g c.requires.readable.good).basins_full in
     let basins = overwrite-take (lifted_network_by c.args.neighbours Carve g).basins (replicate 4096 0) (cells_of g) full linked.basins_are in

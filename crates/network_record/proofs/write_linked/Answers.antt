@@ -16,7 +16,7 @@ use Rattle.network_record.proofs.write_linked.Goals as goal
 use Rattle.network_record.proofs.write_linked.Goals.{After-walk_record}
 
 abbrev ground : After-walk_record → Ground
-ground c = let a = c.args in ground_in a.bytes.now a.width a.height
+ground c = let a = c.args in ground_in a.bytes.now a.size.width a.size.height
 
 -- what stands in the six lists
 abbrev lists : After-walk_record → Network ℕ

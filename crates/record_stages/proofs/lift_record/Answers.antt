@@ -18,8 +18,8 @@ loop-k-init c = (search rules, refl, sym (filled_none _ _))
 pub loop-k-preserved : goal.loop-k-preserved
 loop-k-preserved c =
     let a = c.args in
-    let b = c.read_u32.ensures in
-    let small : c.read_u32.result < 4294967296 = search rules in
+    let b = c.read.ensures in
+    let small : c.read.result < 4294967296 = search rules in
     let e : c.lift_bits.result ≡ lifted_at a.bytes.now c.loop-k.k =
     c.lift_bits.ensures ∙ ap lifted_bits b
     ∙ lifted_bits_lem (number_at 4 a.bytes.now (4 * c.loop-k.k)) (omega arith) (c.requires.2 c.loop-k.k (omega arith)) in (

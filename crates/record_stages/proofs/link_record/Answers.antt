@@ -16,7 +16,7 @@ use Rattle.record_stages.proofs.link_record.Goals.{After-lift_record}
 abbrev count : After-lift_record → ℕ
 count c = c.cells-n.result
 
-counted : (c : After-lift_record) → count c ≡ c.args.height * c.args.width
+counted : (c : After-lift_record) → count c ≡ c.args.size.height * c.args.size.width
 counted c = c.cells-n.ensures
 
 -- the lifted heights, as they were left
@@ -25,15 +25,15 @@ heights c = c.lift_record.new.out
 
 heights_read : (c : After-lift_record)
     → let a = c.args in
-    take (count c) (heights c) ≡ map lifted (ground_in a.bytes.now a.width a.height).heights
+    take (count c) (heights c) ≡ map lifted (ground_in a.bytes.now a.size.width a.size.height).heights
 heights_read c =
     let a = c.args in
-    heights_are a.bytes.now a.width a.height c.requires.readable.good a.lifted.now (count c) (counted c) c.lift_record.ensures
+    heights_are a.bytes.now a.size.width a.size.height c.requires.readable.good a.lifted.now (count c) (counted c) c.lift_record.ensures
 
-heights-long : (c : After-lift_record) → length (take (count c) (heights c)) ≡ c.args.height * c.args.width
+heights-long : (c : After-lift_record) → length (take (count c) (heights c)) ≡ c.args.size.height * c.args.size.width
 heights-long c =
     let a = c.args in
-    read_full a.neighbours a.bytes.now a.width a.height c.requires.readable.good (count c) (counted c) (heights c) (heights_read c)
+    read_full a.neighbours a.bytes.now a.size.width a.size.height c.requires.readable.good (count c) (counted c) (heights c) (heights_read c)
 
 pub lift_record-requires : goal.lift_record-requires
 lift_record-requires c =
@@ -41,7 +41,7 @@ lift_record-requires c =
     let R = c.requires.readable in
     let z = c.cells-n.ensures in
     let fits = c.requires.width_in_bounds.0 in
-    (omega arith, omega arith, in_range-at a.bytes.now a.width a.height R.good c.cells-n.result z)
+    (omega arith, omega arith, in_range-at a.bytes.now a.size.width a.size.height R.good c.cells-n.result z)
 
 pub slice_bounds-link_cells-end-2 : goal.slice_bounds-link_cells-end-2
 slice_bounds-link_cells-end-2 c =
@@ -58,7 +58,7 @@ link_cells-requires c =
     let z = counted at-place in
     let long = heights-long at-place in
     let room = c.requires.width_in_bounds in record {
-      lawful_tile = read_tile a.neighbours s a.width a.height G n z (heights at-place) (heights_read at-place);
+      lawful_tile = read_tile a.neighbours s a.size.width a.size.height G n z (heights at-place) (heights_read at-place);
       heights_in_bounds = (omega (arith, long, room.1), room.2);
     }
 
@@ -73,6 +73,6 @@ returns c =
     let t = heights_read at-place in
     let found = c.link_cells.ensures in
     record {
-      linked = linked_record a.neighbours s a.width a.height G n z (heights at-place) t found.links_are;
-      basins_are = read_basins a.neighbours s a.width a.height G n z (heights at-place) t a.basins.now found.basins_are;
+      linked = linked_record a.neighbours s a.size.width a.size.height G n z (heights at-place) t found.links_are;
+      basins_are = read_basins a.neighbours s a.size.width a.size.height G n z (heights at-place) t a.basins.now found.basins_are;
     }

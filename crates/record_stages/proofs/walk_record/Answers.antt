@@ -30,29 +30,29 @@ abbrev marks : After-cells-n → List ℕ
 marks c = let n = c.cells-n.result in stretch (4 * n) (5 * n - 4 * n) c.args.bytes.now
 
 abbrev tile : After-cells-n → Land
-tile c = tile_land (rule_by c.args.neighbours) c.args.width (heights c) (marks c)
+tile c = tile_land (rule_by c.args.neighbours) c.args.size.width (heights c) (marks c)
 
-links_are : (c : After-cells-n) → Linked (rule_by c.args.neighbours) c.args.width (heights c) (marks c) c.args.links.now
+links_are : (c : After-cells-n) → Linked (rule_by c.args.neighbours) c.args.size.width (heights c) (marks c) c.args.links.now
 links_are c =
     let a = c.args in
-    linked_here a.neighbours a.bytes.now a.width a.height c.requires.readable.good c.cells-n.result c.cells-n.ensures c.requires.linked_record.0
+    linked_here a.neighbours a.bytes.now a.size.width a.size.height c.requires.readable.good c.cells-n.result c.cells-n.ensures c.requires.linked_record.0
 
 heights_are : (c : After-cells-n)
-    → let a = c.args in heights c ≡ map lifted (ground_in a.bytes.now a.width a.height).heights
+    → let a = c.args in heights c ≡ map lifted (ground_in a.bytes.now a.size.width a.size.height).heights
 heights_are c =
     let a = c.args in
-    heights_here a.neighbours a.bytes.now a.width a.height c.requires.readable.good c.cells-n.result c.cells-n.ensures c.requires.linked_record.0
+    heights_here a.neighbours a.bytes.now a.size.width a.size.height c.requires.readable.good c.cells-n.result c.cells-n.ensures c.requires.linked_record.0
 
-heights_full : (c : After-cells-n) → length (heights c) ≡ c.args.height * c.args.width
+heights_full : (c : After-cells-n) → length (heights c) ≡ c.args.size.height * c.args.size.width
 heights_full c =
     let a = c.args in
-    read_full a.neighbours a.bytes.now a.width a.height c.requires.readable.good c.cells-n.result c.cells-n.ensures
+    read_full a.neighbours a.bytes.now a.size.width a.size.height c.requires.readable.good c.cells-n.result c.cells-n.ensures
     a.lifted.now (heights_are c)
 
-tile-is : (c : After-cells-n) → LawfulTile (rule_by c.args.neighbours) c.args.width (heights c) (marks c)
+tile-is : (c : After-cells-n) → LawfulTile (rule_by c.args.neighbours) c.args.size.width (heights c) (marks c)
 tile-is c =
     let a = c.args in
-    read_tile a.neighbours a.bytes.now a.width a.height c.requires.readable.good c.cells-n.result c.cells-n.ensures
+    read_tile a.neighbours a.bytes.now a.size.width a.size.height c.requires.readable.good c.cells-n.result c.cells-n.ensures
     a.lifted.now (heights_are c)
 
 room : (c : After-cells-n)
@@ -113,7 +113,7 @@ returns c =
     worked (tile-is at-place) a.manner c.walk_by.ensures [] (numbers_at 2 s (5 * n) n) n
     (z ∙ sym (heights_full at-place)) refl (c.drain_section.ensures L (receivers_by a.manner L) (drainable (goal.at.returns c).After-walk_by))
     ∙ ap (λ (net : Network ℕ). onto net lists)
-    (read_network a.neighbours s a.width a.height c.requires.readable.good n z a.lifted.now (heights_are at-place) a.manner) in
+    (read_network a.neighbours s a.size.width a.size.height c.requires.readable.good n z a.lifted.now (heights_are at-place) a.manner) in
     let receivers = ap (λ (t : Network ℕ). t.receivers) e in
     let order = ap (λ (t : Network ℕ). t.order) e in
     let levels = ap (λ (t : Network ℕ). t.levels) e in

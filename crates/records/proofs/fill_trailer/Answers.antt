@@ -33,8 +33,8 @@ pub returns : goal.returns
 returns c =
     let n = c.cells-n.ensures in
     trailer_done c.args.width c.args.height c.args.part.now c.requires.0
-    (c.write_u16.ensures ∙ stored-start (bytes_of 2 c.args.width) c.args.part.now)
-    c.write_u16-2.ensures
-    (rw n at c.write_u32.ensures)
-    (rw n at c.write_u32-2.ensures)
-    (rw n at c.write_u32-3.ensures)
+    (c.write.ensures ∙ stored-start (bytes_of 2 c.args.width) c.args.part.now)
+    c.write-2.ensures
+    (rw n at c.write-3.ensures)
+    (rw n at c.write-4.ensures)
+    (rw n at c.write-5.ensures)

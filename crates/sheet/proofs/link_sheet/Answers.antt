@@ -1,24 +1,10 @@
--- `sheet::link_sheet` meets its contract: each call is that of the neighbours asked for.
+-- `sheet::link_sheet` meets its contract: 4,096 weights are enough.
 -- Assumes nothing.
-use Rattle.std.proofs.Common.{subst}
-use Rattle.sheet.specs.SheetLinks.{Carved}
-use Rattle.grid.specs.declared.Neighbours.{Neighbours}
+use Rattle.sheet.proofs.Linked.{weights_room}
 use Rattle.sheet.proofs.link_sheet.Goals as goal
 
-pub link_by_sides-requires : goal.link_by_sides-requires
-link_by_sides-requires c =
-    let a = c.args in
-    let (heights, K) = c.requires.0 in
-    ((heights, subst (λ (N : Neighbours). Carved N a.w heights a.levels.now a.marks.now) c.in-Four.is K), c.requires.1)
-
-pub link_all_around-requires : goal.link_all_around-requires
-link_all_around-requires c =
-    let a = c.args in
-    let (heights, K) = c.requires.0 in
-    ((heights, subst (λ (N : Neighbours). Carved N a.w heights a.levels.now a.marks.now) c.in-Eight.is K), c.requires.1)
-
-pub returns-in-Four : goal.returns-in-Four
-returns-in-Four c = rw c.in-Four.is c.link_by_sides.ensures
-
-pub returns-in-Eight : goal.returns-in-Eight
-returns-in-Eight c = rw c.in-Eight.is c.link_all_around.ensures
+pub link_weighed-requires : goal.link_weighed-requires
+link_weighed-requires c = record {
+  by_index = c.requires;
+  levels_in_bounds = weights_room c.requires.0.1;
+}

@@ -1,8 +1,9 @@
 -- `spills::join` meets its contract: the two searches change no group. Where they found two roots, those are joined and noted.
 -- Assumes nothing.
-use mathlib.Core.Path.{◌∙◌, ◌≡◌}
+use mathlib.Core.Path.{sym, ◌∙◌, ◌≡◌}
 use native.Mathlib.Omega.{arith}
 use lib.ListN.{length}
+use borrow.Author.Tests.{eqb-false, eqb-true}
 use Rattle.groups.proofs.Merging.{one_already, one-root, other_root, Searched, searched, two_joined}
 use Rattle.groups.specs.Groups.{Root}
 use Rattle.lists.specs.Lists.{at}
@@ -24,35 +25,36 @@ both c =
     let in-groups = c.requires.group_in_bounds.1 in
     let a = c.args in
     let F = searched
-    (found_at a.group.now c.find_basin-r.new.group a.labels.now _ _ _ c.lesser-a.ensures c.find_basin-r.ensures)
-    (found_at c.find_basin-r.new.group c.find_basin-s.new.group a.labels.now _ _ _ c.greater-b.ensures c.find_basin-s.ensures) in
+    (found_at a.group.now c.find_basin-r.new.group a.labels.now _ _ _ (c.index.ensures.0 ∙ c.lesser-a.ensures) c.find_basin-r.ensures)
+    (found_at c.find_basin-r.new.group c.find_basin-s.new.group a.labels.now _ _ _ (c.index-2.ensures.0 ∙ c.greater-b.ensures) c.find_basin-s.ensures) in
     let long = c.find_basin-s.auto.group ∙ c.find_basin-r.auto.group in
     let rise = pair_climbs c.args.w c.args.p c.requires.w_nonzero.0 in
     let la = in-groups (lesser_of c.args.p) (omega (arith, c.requires.w_nonzero.3, rise)) in
     let lb = in-groups (greater_of c.args.w c.args.p) c.requires.w_nonzero.3 in
     (F, one-root F (omega (arith, long, la)), other_root F (omega (arith, long, lb)), long)
 
-pub bounds-labels-a : goal.bounds-labels-a
-bounds-labels-a c =
+pub bounds-labels-index : goal.bounds-labels-index
+bounds-labels-index c =
     omega (arith, c.requires.w_nonzero.3, c.lesser-a.ensures, pair_climbs c.args.w c.args.p c.requires.w_nonzero.0)
 
 pub find_basin-r-requires : goal.find_basin-r-requires
 find_basin-r-requires c =
     let rise = pair_climbs c.args.w c.args.p c.requires.w_nonzero.0 in
-    (rw c.lesser-a.ensures (c.requires.group_in_bounds.1 (lesser_of c.args.p) (omega (arith, c.requires.w_nonzero.3, rise))), c.requires.w_nonzero.4)
+    let la = c.requires.group_in_bounds.1 (lesser_of c.args.p) (omega (arith, c.requires.w_nonzero.3, rise)) in
+    (rw (c.index.ensures.0, c.lesser-a.ensures) la, c.requires.w_nonzero.4)
 
 pub find_basin-s-requires : goal.find_basin-s-requires
 find_basin-s-requires c =
     let lb = c.requires.group_in_bounds.1 (greater_of c.args.w c.args.p) c.requires.w_nonzero.3 in
-    (rw c.greater-b.ensures (omega (arith, lb, c.find_basin-r.auto.group)), c.find_basin-r.ensures.1.down)
+    (rw (c.index-2.ensures.0, c.greater-b.ensures) (omega (arith, lb, c.find_basin-r.auto.group)), c.find_basin-r.ensures.1.down)
 
-pub returns-then-r-s : goal.returns-then-r-s
-returns-then-r-s c =
+pub returns-then-eq : goal.returns-then-eq
+returns-then-eq c =
     let a = c.args in
-    let F = (both (goal.at.returns-then-r-s c).After-find_basin-s).0 in (
-      (one_already F c.if-r-s.true).1,
+    let F = (both (goal.at.returns-then-eq c).After-find_basin-s).0 in (
+      (one_already F (eqb-true _ _ (sym c.eq.ensures ∙ c.if-eq.true))).1,
       found_one a.group.now (at a.labels.now (lesser_of a.p)) (at a.labels.now (greater_of a.w a.p)) a.p a.notes.now F
-          c.if-r-s.true,
+          (eqb-true _ _ (sym c.eq.ensures ∙ c.if-eq.true)),
     )
 
 pub hang_basins-requires : goal.hang_basins-requires
@@ -68,7 +70,7 @@ pub returns : goal.returns
 returns c =
     let a = c.args in
     let b = both (goal.at.returns c).After-find_basin-s in
-    let two = c.if-r-s.false in
+    let two = eqb-false _ _ (sym c.eq.ensures ∙ c.if-eq.false) in
     let j = c.hang_basins in (
       (two_joined b.0 j.new.group b.1 b.2 two j.ensures).1,
       found_two a.group.now (at a.labels.now (lesser_of a.p)) (at a.labels.now (greater_of a.w a.p)) a.p a.notes.now b.0 two

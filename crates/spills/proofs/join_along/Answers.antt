@@ -14,9 +14,10 @@ use Rattle.spills.proofs.Under.{greater_on}
 use Rattle.spills.specs.Noting.{Noting}
 use Rattle.spills.proofs.join_along.Goals as goal
 
-pub loop-i-init : goal.loop-i-init
-loop-i-init c =
+pub loop-p-init : goal.loop-p-init
+loop-p-init c =
     let a = c.args in (
+      refl,
       omega arith,
       refl,
       refl,
@@ -27,40 +28,41 @@ pub join-requires : goal.join-requires
 join-requires c =
     let list = c.args.list.now in
     let S = c.requires.by_index.1 in
-    let Q = c.loop-i.invariant.3 c.requires.by_index.0 S in record {
+    let Q = c.loop-p.invariant.4 c.requires.by_index.0 S in record {
       w_nonzero = (
         S.wide,
         S.narrow,
         omega (arith, S.labelled, S.few),
-        greater_on S (at list c.loop-i.i) (at_member list c.loop-i.i c.loop-i-test.true),
+        greater_on S (at list c.loop-p.p-index) (at_member list c.loop-p.p-index c.loop-p-test.true),
         Q.groups.down,
       );
       group_in_bounds = (omega (arith, Q.sized, Q.room), λ k h. omega (arith, S.small k h, Q.sized));
     }
 
-pub loop-i-preserved : goal.loop-i-preserved
-loop-i-preserved c =
+pub loop-p-preserved : goal.loop-p-preserved
+loop-p-preserved c =
     let j = c.join in
-    let v = c.loop-i.invariant in
-    let i = c.loop-i.i in
+    let v = c.loop-p.invariant in
+    let i = c.loop-p.p-index in
     let kg = j.auto.group in (
+      refl,
       omega arith,
-      kg ∙ v.1,
-      j.auto.notes ∙ v.2,
-      λ heights S. noting_next S i c.loop-i-test.true (v.3 heights S) j.ensures.0 kg j.ensures.1,
+      kg ∙ v.2,
+      j.auto.notes ∙ v.3,
+      λ heights S. noting_next S i c.loop-p-test.true (v.4 heights S) j.ensures.0 kg j.ensures.1,
     )
 
 pub returns : goal.returns
 returns c =
     let a = c.args in
     let list = a.list.now in
-    let e : c.loop-i.i ≡ length list = omega arith in
+    let e : c.loop-p.p-index ≡ length list = omega arith in
     λ heights S.
-    subst (λ (l : List ℕ). Noting a.w heights a.labels.now l c.loop-i.group c.loop-i.notes)
-    (ap (λ (n : ℕ). take n list) e ∙ take-length list) (c.loop-i.invariant.3 heights S)
+    subst (λ (l : List ℕ). Noting a.w heights a.labels.now l c.loop-p.group c.loop-p.notes)
+    (ap (λ (n : ℕ). take n list) e ∙ take-length list) (c.loop-p.invariant.4 heights S)
 
 pub shape_of-group : goal.shape_of-group
-shape_of-group c = c.loop-i.invariant.1
+shape_of-group c = c.loop-p.invariant.2
 
 pub shape_of-notes : goal.shape_of-notes
-shape_of-notes c = c.loop-i.invariant.2
+shape_of-notes c = c.loop-p.invariant.3

@@ -16,9 +16,10 @@ loop-c-init c =
     let a = c.args in
     (omega arith, refl, sym (filled_none (level a.labels.now a.spills.now a.heights.now) a.heights.now))
 
-pub bounds-spills-labels : goal.bounds-spills-labels
-bounds-spills-labels c =
-    c.requires.by_index c.loop-c.c (omega (arith, c.requires.labels_len.0, c.loop-c.invariant.1, c.loop-c-test.true))
+pub bounds-spills-from : goal.bounds-spills-from
+bounds-spills-from c =
+    rw c.from.ensures
+    (c.requires.by_index c.loop-c.c (omega (arith, c.requires.labels_len.0, c.loop-c.invariant.1, c.loop-c-test.true)))
 
 pub loop-c-preserved : goal.loop-c-preserved
 loop-c-preserved c =
@@ -29,9 +30,9 @@ loop-c-preserved c =
     let f = level a.labels.now a.spills.now old in
     let same : at c.loop-c.heights k ≡ at old k = ap (λ (l : List ℕ). at l k) v.2 ∙ filled_past f k old k (le_refl k) in (
       omega arith,
-      length-set c.loop-c.heights k c.most_u32.result ∙ v.1,
+      length-set c.loop-c.heights k c.max.result ∙ v.1,
       filled_put f k _ old (omega arith) v.2 refl
-          (c.most_u32.ensures ∙ ap (λ (x : ℕ). max x (at a.spills.now (at a.labels.now k))) same) refl,
+          ((rw c.from.ensures at c.max.ensures) ∙ ap (λ (x : ℕ). max x (at a.spills.now (at a.labels.now k))) same) refl,
     )
 
 pub returns : goal.returns

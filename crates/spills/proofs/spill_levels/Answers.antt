@@ -50,5 +50,5 @@ pub returns : goal.returns
 returns c =
     let S = c.requires.0 in let m = most-few (goal.at.returns c).After-most_of in
     let s = c.spill_all in
-    raised_by s.new.notes S (c.join_all.ensures c.args.heights.now S).1 {top = c.most_of.result + 1} (omega arith)
+    raised_by s.new.notes S (c.join_all.ensures c.args.heights.now S).1 {top = c.from-top.result + 1} (omega arith)
     (λ k. let g = greatest-at c.args.labels.now k in let e = c.most_of.ensures in omega arith) s.ensures c.raise.ensures

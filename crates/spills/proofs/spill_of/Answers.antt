@@ -25,6 +25,6 @@ bounds-spills-note c =
 pub returns : goal.returns
 returns c =
     let a = c.args in
-    c.most_u32.ensures
+    c.max.ensures
     ∙ ap (λ (h : ℕ). max h (at a.spills.now (a.note % 65536))) c.height-h.ensures
     ∙ sym (spill_some a.w a.heights.now a.spills.now a.note c.if-note-eq-NONE.false)

@@ -1,15 +1,8 @@
 -- `spread::gather` meets its contract: between turns the places of those before cell c are packed into the queue (Begins).
 -- Assumes nothing.
-use mathlib.Core.Path.{◌≡◌}
-use Prim.Native.Nat.{◌-◌, ◌≤◌}
-use lib.ListN.{length}
 use Rattle.lists.specs.Stores.{Packs}
 use Rattle.spread.specs.Wave.{beginnings}
 use Rattle.spread.proofs.gather.Given as goal
 
 abbrev pub invariant-loop-c : goal.invariant-loop-c
-invariant-loop-c l =
-    (l.c ≤ length l.masks) × (length l.queue ≡ length l.initial.queue) × Packs (beginnings l.masks l.counts l.c) l.queue l.tail.0
-
-abbrev pub decreases-loop-c : goal.decreases-loop-c
-decreases-loop-c l = length l.masks - l.c
+invariant-loop-c l = Packs (beginnings l.masks l.counts l.c) l.queue l.tail.0

@@ -2,8 +2,7 @@
 -- After c turns the first c flags have the side's bit where the pair is kept. A turn adds what `kept` says of the cell's two squares;
 -- flags have room for it.
 -- Assumes nothing.
-use mathlib.Core.Path.{◌≡◌}
-use Prim.Native.Nat.{◌+◌, ◌-◌, ◌≤◌}
+use Prim.Native.Nat.{◌+◌}
 use lib.ListN.{length}
 use Rattle.lists.specs.Lists.{at}
 use Rattle.lists.specs.Stores.{Puts}
@@ -11,9 +10,4 @@ use Rattle.squares.specs.Squares.{flag}
 use Rattle.squares.proofs.add_flags.Given as goal
 
 abbrev pub invariant-loop-c : goal.invariant-loop-c
-invariant-loop-c l =
-    (length l.flags ≡ length l.initial.flags) × (l.c ≤ l.n - l.side.on) × Puts (λ i. at l.initial.flags i + flag l.side l.n l.labels (at l.sq) i) 0 l.c
-    l.initial.flags l.flags
-
-abbrev pub decreases-loop-c : goal.decreases-loop-c
-decreases-loop-c l = l.n - l.c
+invariant-loop-c l = Puts (λ i. at l.initial.flags i + flag l.side (length l.tile.heights.now) l.tile.labels.now (at l.sq) i) 0 l.c l.initial.flags l.flags

@@ -2,11 +2,7 @@
 -- Assumes nothing.
 use Rattle.lists.specs.Lists.{at}
 use Rattle.squares.proofs.Packing.{Packing}
-use Prim.Native.Nat.{◌-◌, ◌≤◌}
 use Rattle.squares.proofs.compress.Given as goal
 
 abbrev pub invariant-loop-c : goal.invariant-loop-c
-invariant-loop-c l = (l.c ≤ l.n) × Packing l.neighbours (at l.flags) l.initial.list l.list l.k l.c
-
-abbrev pub decreases-loop-c : goal.decreases-loop-c
-decreases-loop-c l = l.n - l.c
+invariant-loop-c l = Packing l.neighbours (at l.flags) l.initial.list l.list l.k l.c

@@ -7,5 +7,5 @@ use Rattle.squares.proofs.squares.Goals as goal
 pub returns : goal.returns
 returns c =
     let a = c.args in
-    squares_filled a.neighbours a.w a.heights.now a.labels.now c.requires.grid.0 c.requires.grid.1 c.requires.by_index
+    squares_filled a.tile.neighbours a.tile.w a.tile.heights.now a.tile.labels.now c.requires.grid.0 c.requires.grid.1 c.requires.by_index
     c.begin_squares.ensures c.end_rows.ensures

@@ -2,6 +2,7 @@
 -- Assumes nothing.
 use mathlib.Core.Path.{refl}
 use native.Mathlib.Omega.{arith}
+use lib.Seq.{length-take-le}
 use Rattle.text.proofs.Lengths.{Entries, Parts, parts_fit}
 use Rattle.text.proofs.Writing.{printed, wrote_then}
 use Rattle.text.proofs.write_tile.Goals as goal
@@ -49,7 +50,8 @@ outlet_drainage-out-requires c =
 
 pub total_water-rain-requires : goal.total_water-rain-requires
 total_water-rain-requires c =
-    ((parts (goal.at.total_water-rain-requires c).After-shared_slice_known-5-1).few, c.requires.water_holds)
+    let few = (parts (goal.at.total_water-rain-requires c).After-shared_slice_known-5-1).few in
+    omega (arith, few, length-take-le c.args.n c.args.water.now c.requires.water_holds)
 
 pub write_sums-requires : goal.write_sums-requires
 write_sums-requires c =

@@ -1,43 +1,48 @@
 -- `trace::walk_on` meets its contract: a trace that ended is the same under any larger budget, and one that did not is on a ring.
 -- Assumes nothing.
-use mathlib.Core.Path.{ap, refl, sym, ◌∙◌, ◌≡◌}
-use Prim.Native.Nat.{ℕ, ◌+◌, ◌-◌}
-use native.Mathlib.Omega.{arith}
-use lib.ListN.{length}
+use Rattle.std.proofs.Common.{rules, arith, ap, sym, ◌∙◌, ◌≡◌, ℕ, List, length, ◌+◌, ◌-◌, ◌<◌}
+use Rattle.std.specs.Prelude.{Ok, Err}
 use Rattle.rules.proofs.TraceSteps.{trace_from_ended}
-use Rattle.rules.specs.Trace.{stopped, trace_from}
+use Rattle.rules.specs.Trace.{stopped, trace_from, Traced}
 use Rattle.trace.proofs.Ring.{stopped_later, stopped_on_ring}
 use Rattle.trace.specs.Answer.{answer_of}
-use Rattle.trace.specs.declared.TraceAnswer.{TraceAnswer}
-use Rattle.trace.specs.declared.TraceAnswer.TheVariants.{BadCell, BadEntry, BadList, Outlet, Stopped}
-use Rattle.kinds.specs.declared.Cell.{Cell}
+use Rattle.trace.specs.declared.TraceRefusal.{TraceRefusal}
+use Rattle.trace.specs.declared.TraceRefusal.TheVariants.{BadCell, BadEntry, BadList}
 use Rattle.trace.proofs.walk_on.Goals as goal
 
--- an answer of another kind is no stop
-not_stopped : (a : TraceAnswer) → ((x : Cell) → (s : ℕ) → a ≡ Stopped x s → ⊥) → (d t : ℕ) → answer_of a ≡ stopped d t → ⊥
-not_stopped (Outlet c s) k d t e = cc
-not_stopped (Stopped c s) k d t e = k c s refl
-not_stopped BadList k d t e = cc
-not_stopped BadCell k d t e = cc
-not_stopped (BadEntry c) k d t e = cc
+-- an answer of a walk of n steps that is no stop is that of a walk with a larger budget
+longer : (r : List ℕ) (n budget c : ℕ) (a : Traced) → n < budget → a ≡ trace_from r n 0 c → ((d t : ℕ) → a ≡ stopped d t → ⊥)
+    → a ≡ trace_from r budget 0 c
+longer r n budget c a l e never =
+    let m : n + (budget - n) ≡ budget = omega arith in
+    e ∙ sym (trace_from_ended r n (budget - n) 0 c (λ d t q. never d t (e ∙ q))) ∙ ap (λ (k : ℕ). trace_from r k 0 c) m
 
-pub returns-in_default : goal.returns-in_default
-returns-in_default c =
-    let w = c.walk-first in
-    let r = c.args.receivers.now in
-    let n = length r in
-    let e : n + (c.args.budget - n) ≡ c.args.budget = omega arith in
-    w.ensures
-    ∙ sym (trace_from_ended r n (c.args.budget - n) 0 c.args.start.0 (λ d t q. not_stopped w.result c.in_default.not-Stopped d t (w.ensures ∙ q)))
-    ∙ ap (λ (k : ℕ). trace_from r k 0 c.args.start.0) e
+-- a refusal is no stop
+refusal_stays : (e : TraceRefusal) (d t : ℕ) → answer_of (Err e) ≡ stopped d t → ⊥
+refusal_stays BadList d t q = cc
+refusal_stays BadCell d t q = cc
+refusal_stays (BadEntry c) d t q = cc
 
-pub cell_on_ring-requires : goal.cell_on_ring-requires
-cell_on_ring-requires c =
-    let w = c.walk-first in
-    stopped_on_ring c.args.receivers.now c.args.start.0 c.requires.0 (sym w.ensures ∙ ap answer_of c.in-Stopped.is) c.requires.1
+pub returns-in_err-outlet : goal.returns-in_err-outlet
+returns-in_err-outlet c =
+    let a = c.args in
+    let why = c.in_err-outlet.field-0.0 in
+    let e : c.from_residual.result ≡ Err why = search rules in
+    ap answer_of e
+    ∙ longer a.receivers.now (length a.receivers.now) a.budget a.start.0 _ (omega arith) c.in_err-outlet.ensures (refusal_stays why)
 
-pub returns : goal.returns
-returns c =
-    let w = c.walk-first in
-    stopped_later c.args.receivers.now c.args.start.0 c.requires.0 (sym w.ensures ∙ ap answer_of c.in-Stopped.is)
-    c.args.budget c.cell_on_ring.result.0 (omega arith) c.cell_on_ring.ensures
+pub returns-in-Outlet : goal.returns-in-Outlet
+returns-in-Outlet c =
+    longer c.args.receivers.now (length c.args.receivers.now) c.args.budget c.args.start.0 _ (omega arith)
+    (ap (λ a. answer_of (Ok a)) (sym c.in-Outlet.is) ∙ c.in_ok-outlet.ensures) (λ d t q. cc)
+
+pub cell_on_ring-last-requires : goal.cell_on_ring-last-requires
+cell_on_ring-last-requires c =
+    stopped_on_ring c.args.receivers.now c.args.start.0 c.requires.0
+    (sym (c.in_ok-outlet.ensures) ∙ ap (λ a. answer_of (Ok a)) c.in-Stopped.is) c.requires.1
+
+pub returns-in-Stopped : goal.returns-in-Stopped
+returns-in-Stopped c =
+    stopped_later c.args.receivers.now c.args.start.0 c.requires.0
+    (sym (c.in_ok-outlet.ensures) ∙ ap (λ a. answer_of (Ok a)) c.in-Stopped.is)
+    c.args.budget c.cell_on_ring-last.result.0 (omega arith) c.cell_on_ring-last.ensures

@@ -14,7 +14,7 @@ pub loop-cell-preserved : goal.loop-cell-preserved
 loop-cell-preserved c =
     let a = c.args in (
       search rules,
-      rw (c.most_u32-high.ensures, c.lift_bits.ensures, c.read_u32.ensures, c.loop-cell.invariant.1)
+      rw (c.max-high.ensures, c.lift_bits.ensures, c.read.ensures, c.loop-cell.invariant.1)
           (greatest_lift_next a.bytes.now c.loop-cell.cell),
     )
 

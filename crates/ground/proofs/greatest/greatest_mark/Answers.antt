@@ -1,4 +1,4 @@
--- `ground::greatest::greatest_mark` meets its contract: after `cell` turns `most` is the greatest of the first `cell` marks.
+-- `ground::greatest::greatest_mark` meets its contract: after some turns `most` is the greatest of the marks that were taken.
 -- Assumes nothing.
 use mathlib.Core.Path.{ap, refl, ◌∙◌, ◌≡◌}
 use native.Mathlib.Omega.{arith}
@@ -10,16 +10,13 @@ use Rattle.lists.specs.Greatest.{greatest}
 use Rattle.lists.specs.Lists.{at}
 use Rattle.ground.proofs.greatest.greatest_mark.Goals as goal
 
-pub loop-cell-init : goal.loop-cell-init
-loop-cell-init c = (refl, search rules, refl)
-
-pub loop-cell-preserved : goal.loop-cell-preserved
-loop-cell-preserved c =
+pub loop-mark-preserved : goal.loop-mark-preserved
+loop-mark-preserved c =
     let a = c.args in
-    (refl, search rules, rw (c.greater-most.ensures, c.loop-cell.invariant.2) (greatest-next (at a.marks.now) c.loop-cell.cell))
+    (search rules, omega (arith, greatest-next (at a.marks.now) c.loop-mark.mark-index))
 
 pub returns : goal.returns
 returns c =
     let marks = c.args.marks.now in
-    let e : c.loop-cell.cell ≡ length marks = omega arith in
-    c.loop-cell.invariant.2 ∙ rw e (ap greatest (tab-is (at marks) marks (length marks) 0 refl (λ k h. refl)))
+    let e : c.loop-mark.mark-index ≡ length marks = omega arith in
+    c.loop-mark.invariant.1 ∙ rw e (ap greatest (tab-is (at marks) marks (length marks) 0 refl (λ k h. refl)))

@@ -5,19 +5,19 @@
 -- Assumes nothing.
 use mathlib.Core.List.{List, ◌++◌}
 use mathlib.Core.Path.{refl}
-use Prim.Native.Nat.{ℕ, ◌*◌, ◌+◌, ◌-◌, ◌≤◌}
+use Prim.Native.Nat.{ℕ, ◌*◌, ◌+◌, ◌-◌, ◌<◌, ◌≤◌}
 use native.Mathlib.Omega.{arith}
 use lib.ListN.{length}
 use borrow.Rule.Slice.PartMut.{post_of, put_mid}
-use Rattle.lake_list.proofs.Splitting.{below, can_gather, inner, inner_count, inner_first, lake_listed, lake-none, next_few, on_tile_fact}
+use Rattle.lake_list.proofs.Splitting.{below, can_gather, inner, inner_count, inner_first, lake_listed, lake-none, lake_over, next_few, on_tile_fact}
 use Rattle.lake_list.proofs.Turns.{all_listed, all_over, Bounds, Kept, kept_on, turn_again, turn_bounds, turn_ends, turn_fewer, turn_lake}
 use Rattle.lake_list.proofs.Turns.{turn_over, turn_room}
 use Rattle.lake_list.proofs.Walking.{Turn, turn, walk_starts, Walked}
 use Rattle.lake_list.specs.Listing.{NotedLakes, Room}
 use Rattle.lists.specs.Lists.{at}
 use Rattle.lake_list.proofs.nesting.+list_groups_list_lake.Goals as goal
-use Rattle.lake_list.proofs.nesting.+list_groups_list_lake.Goals.{list_groups-After-list_lake-next, list_groups-In-loop-x}
-use Rattle.lake_list.proofs.nesting.+list_groups_list_lake.Goals.{list_lake-After-gather-count}
+use Rattle.lake_list.proofs.nesting.+list_groups_list_lake.Goals.{list_groups-After-list_lake, list_groups-In-loop-x}
+use Rattle.lake_list.proofs.nesting.+list_groups_list_lake.Goals.{list_lake-After-gather-count, list_lake-In_ok-next}
 
 -- what a turn of the loop finds
 module _ (t : ℕ) (c : list_groups-In-loop-x t) where
@@ -59,22 +59,30 @@ module _ (t : ℕ) (c : list_groups-In-loop-x t) where
       c.requires.room.2
 
 -- what it leaves
-module _ (t : ℕ) (c : list_groups-After-list_lake-next t) where
+module _ (t : ℕ) (c : list_groups-After-list_lake t) where
   abbrev tn : list_groups-In-loop-x t
-  tn = (goal.at.list_groups-After-list_lake-next t c).In-loop-x
+  tn = (goal.at.list_groups-After-list_lake t c).In-loop-x
 
-  still : Kept c.args.cells.now (put_mid (from_cell t tn) (cells_of t tn) c.loop-x.cells c.list_lake-next.new.cells)
-      c.args.spare.now (put_mid (from_cell t tn) (cells_of t tn) c.loop-x.spare c.list_lake-next.new.spare)
-      c.args.ends.now (put_mid (from_end t tn) (length c.loop-x.ends - from_end t tn) c.loop-x.ends c.list_lake-next.new.ends)
-      c.args.index.now c.list_lake-next.new.index c.args.rows.now c.list_lake-next.new.rows
+  still : Kept c.args.cells.now (put_mid (from_cell t tn) (cells_of t tn) c.loop-x.cells c.list_lake.new.cells)
+      c.args.spare.now (put_mid (from_cell t tn) (cells_of t tn) c.loop-x.spare c.list_lake.new.spare)
+      c.args.ends.now (put_mid (from_end t tn) (length c.loop-x.ends - from_end t tn) c.loop-x.ends c.list_lake.new.ends)
+      c.args.index.now c.list_lake.new.index c.args.rows.now c.list_lake.new.rows
   still =
-      let l = c.list_lake-next in
+      let l = c.list_lake in
       kept_on (from_cell t tn) (cells_of t tn) (from_end t tn) l.new.cells l.new.spare l.new.ends l.new.index l.new.rows (held t tn)
       l.auto.cells l.auto.spare l.auto.ends l.auto.index l.auto.rows
 
 -- there is room for the lakes inside
 enough : (t : ℕ) (c : list_lake-After-gather-count t) → 2 * length c.args.cells.now ≤ length c.gather-count.new.ends
 enough t c = omega (arith, c.requires.room.1, c.gather-count.auto.ends)
+
+-- fewer lakes are listed inside than the lake has cells
+listed_few : (t : ℕ) (c : list_lake-In_ok-next t) → c.in_ok-next.next < c.args.from + length c.args.cells.now
+listed_few t c =
+    let K = c.requires.noted_lake in
+    let n = c.if-left-eq0.false in
+    next_few K c.split_height-h.ensures c.gather-count.ensures c.gather-count.auto.out c.requires.room.0.spare_fits
+    (enough t (goal.at.list_lake-In_ok-next t c).After-gather-count) (omega arith) c.list_groups.ensures c.in_ok-next.was
 
 pub list_groups-loop-x-init : goal.list_groups-loop-x-init
 list_groups-loop-x-init t c = (
@@ -123,9 +131,9 @@ pub list_groups-slice_bounds-list_lake-start-in-loop-x-2 : goal.list_groups-slic
 list_groups-slice_bounds-list_lake-start-in-loop-x-2 t c =
     let b = bounds t (goal.at.list_groups-slice_bounds-list_lake-start-in-loop-x-2 t c).In-loop-x in omega arith
 
-pub list_groups-list_lake-next-requires : goal.list_groups-list_lake-next-requires
-list_groups-list_lake-next-requires t c =
-    let q = (goal.at.list_groups-list_lake-next-requires t c).In-loop-x in
+pub list_groups-list_lake-requires : goal.list_groups-list_lake-requires
+list_groups-list_lake-requires t c =
+    let q = (goal.at.list_groups-list_lake-requires t c).In-loop-x in
     let a = c.args in
     let K = lakes t q in (
       omega (
@@ -142,23 +150,23 @@ list_groups-list_lake-next-requires t c =
       ),
     )
 
-pub list_groups-returns-then-next-eq-NO_PLACE : goal.list_groups-returns-then-next-eq-NO_PLACE
-list_groups-returns-then-next-eq-NO_PLACE t c =
-    let q = (goal.at.list_groups-returns-then-next-eq-NO_PLACE t c).In-loop-x in
+pub list_groups-returns-in_err-next : goal.list_groups-returns-in_err-next
+list_groups-returns-in_err-next t c =
+    let q = (goal.at.list_groups-returns-in_err-next t c).In-loop-x in
     let a = c.args in
-    λ K. all_over K a.left a.from a.rows.now (walked t q K) (this t q K)
-    (turn_over K a.left a.from a.rows.now (walked t q K) (this t q K) (held t q) (room t q) c.list_lake-next.ensures c.if-next-eq-NO_PLACE.true)
+    λ K. all_over K a.left a.from a.rows.now (walked t q K) (this t q K) c.from_residual.ensures
+    (turn_over K a.left a.from a.rows.now (walked t q K) (this t q K) (held t q) (room t q) c.list_lake.ensures c.in_err-next.was)
 
 pub list_groups-loop-x-preserved : goal.list_groups-loop-x-preserved
 list_groups-loop-x-preserved t c =
     let q = (goal.at.list_groups-loop-x-preserved t c).In-loop-x in
-    let l = c.list_lake-next in
+    let l = c.list_lake in
     let a = c.args in
     let e = c.loop-x.ends in (
       omega (arith, c.loop-x-test.true),
-      still t (goal.at.list_groups-loop-x-preserved t c).After-list_lake-next,
+      still t (goal.at.list_groups-loop-x-preserved t c).After-list_lake,
       λ K. turn_again K a.left a.from a.rows.now (walked t q K) (this t q K) (held t q) (room t q) l.ensures
-          c.if-next-eq-NO_PLACE.false l.new.cells (l.new.ends ++ post_of (from_end t q) (length e - from_end t q) e) refl l.auto.cells,
+          c.in_ok-next.was l.new.cells (l.new.ends ++ post_of (from_end t q) (length e - from_end t q) e) refl l.auto.cells,
     )
 
 pub list_groups-returns : goal.list_groups-returns
@@ -181,9 +189,9 @@ list_lake-split_height-h-requires t c =
 pub list_lake-gather-count-requires-clause-gatherable : goal.list_lake-gather-count-requires-clause-gatherable
 list_lake-gather-count-requires-clause-gatherable t c = can_gather c.requires.noted_lake c.split_height-h.ensures
 
-pub list_lake-list_groups-next-requires : goal.list_lake-list_groups-next-requires
-list_lake-list_groups-next-requires t c =
-    let g = (goal.at.list_lake-list_groups-next-requires t c).After-gather-count in
+pub list_lake-list_groups-requires : goal.list_lake-list_groups-requires
+list_lake-list_groups-requires t c =
+    let g = (goal.at.list_lake-list_groups-requires t c).After-gather-count in
     let K = c.requires.noted_lake in
     let R = c.requires.room.0 in
     let h = c.split_height-h.ensures in
@@ -206,21 +214,27 @@ list_lake-list_groups-next-requires t c =
       ),
     )
 
-pub list_lake-put_row-requires : goal.list_lake-put_row-requires
-list_lake-put_row-requires t c =
-    let g = (goal.at.list_lake-put_row-requires t c).After-gather-count in
-    let K = c.requires.noted_lake in
+pub list_lake-returns-in_err-next : goal.list_lake-returns-in_err-next
+list_lake-returns-in_err-next t c =
+    let g = (goal.at.list_lake-returns-in_err-next t c).After-gather-count in
     let R = c.requires.room.0 in
-    let G = c.gather-count.ensures in
     let n = c.if-left-eq0.false in
-    let f = next_few K c.split_height-h.ensures G c.gather-count.auto.out R.spare_fits (enough t g) {left = c.args.left} {from = c.args.from}
-    (omega arith) R.few c.list_groups-next.ensures in
-    (λ l. omega (arith, f.1 l, R.rows_fit, c.list_groups-next.auto.rows), f.0)
+    λ K. lake_over K c.split_height-h.ensures c.gather-count.ensures c.gather-count.auto.out R.spare_fits (enough t g) (omega arith)
+    c.list_groups.ensures c.in_err-next.was c.from_residual.ensures
+
+pub list_lake-bounds-rows-next : goal.list_lake-bounds-rows-next
+list_lake-bounds-rows-next t c = omega (arith, listed_few t c, c.requires.room.0.rows_fit, c.list_groups.auto.rows)
+
+pub list_lake-offset_bounds-rows-next : goal.list_lake-offset_bounds-rows-next
+list_lake-offset_bounds-rows-next t c = omega (arith, listed_few t c, c.requires.room.0.few)
+
+pub list_lake-overflow_add-result : goal.list_lake-overflow_add-result
+list_lake-overflow_add-result t c = omega (arith, listed_few t c, c.requires.room.0.few)
 
 pub list_lake-returns : goal.list_lake-returns
 list_lake-returns t c =
     let g = (goal.at.list_lake-returns t c).After-gather-count in
     let R = c.requires.room.0 in
     let n = c.if-left-eq0.false in
-    λ K. lake_listed K c.split_height-h.ensures c.gather-count.ensures c.gather-count.auto.out R.spare_fits (enough t g) (omega arith) R.few
-    c.list_groups-next.ensures c.row_of-row.ensures c.put_row.ensures
+    λ K. lake_listed K c.split_height-h.ensures c.gather-count.ensures c.gather-count.auto.out R.spare_fits (enough t g) (omega arith)
+    c.list_groups.ensures c.in_ok-next.was c.row_of-row.ensures

@@ -3,8 +3,8 @@
 use borrow.Author.Tests.{le-ltb, lt-ltb}
 use Rattle.lake_notes.proofs.meeting.higher_of.Goals as goal
 
-pub returns-then-heights-a : goal.returns-then-heights-a
-returns-then-heights-a c = (rw (lt-ltb _ _ c.if-heights-a.true), c.requires.1)
+pub returns-then-heights-index : goal.returns-then-heights-index
+returns-then-heights-index c = (rw (lt-ltb _ _ (rw (c.index.ensures.0, c.index-2.ensures.0) at c.if-heights-index.true)), c.requires.1)
 
-pub returns-else-heights-a : goal.returns-else-heights-a
-returns-else-heights-a c = (rw (le-ltb _ _ c.if-heights-a.false), c.requires.0)
+pub returns-else-heights-index : goal.returns-else-heights-index
+returns-else-heights-index c = (rw (le-ltb _ _ (rw (c.index.ensures.0, c.index-2.ensures.0) at c.if-heights-index.false)), c.requires.0)

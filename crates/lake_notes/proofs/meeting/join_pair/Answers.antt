@@ -1,8 +1,9 @@
 -- `lake_notes::join_pair` meets its contract: the two searches change no group. Where they found two roots, those are joined.
 -- Assumes nothing.
-use mathlib.Core.Path.{◌∙◌, ◌≡◌}
+use mathlib.Core.Path.{sym, ◌∙◌, ◌≡◌}
 use native.Mathlib.Omega.{arith}
 use lib.ListN.{length}
+use borrow.Author.Tests.{eqb-false, eqb-true}
 use Rattle.groups.proofs.Merging.{one-root, other_root, Searched, searched}
 use Rattle.groups.specs.Groups.{Root}
 use Rattle.lake_notes.proofs.Turns.{met-one, met-two}
@@ -38,8 +39,8 @@ find_cell-s-requires c = (
   c.find_cell-r.ensures.1.down,
 )
 
-pub returns-then-r-s : goal.returns-then-r-s
-returns-then-r-s c = met-one (both (goal.at.returns-then-r-s c).After-find_cell-s).0 c.if-r-s.true
+pub returns-then-eq : goal.returns-then-eq
+returns-then-eq c = met-one (both (goal.at.returns-then-eq c).After-find_cell-s).0 (eqb-true _ _ (sym c.eq.ensures ∙ c.if-eq.true))
 
 pub flag_meeting-requires : goal.flag_meeting-requires
 flag_meeting-requires c =
@@ -73,6 +74,7 @@ returns c =
     let b = both (goal.at.returns c).After-find_cell-s in
     let long = b.3 in
     let rise = pair_climbs c.args.w c.args.p c.requires.w_nonzero.0 in
-    met-two b.0 c.if-r-s.false (omega (arith, long, c.requires.w_nonzero.3, rise)) (omega (arith, long, c.requires.w_nonzero.3)) hung.0 hung.1
+    met-two b.0 (eqb-false _ _ (sym c.eq.ensures ∙ c.if-eq.false))
+    (omega (arith, long, c.requires.w_nonzero.3, rise)) (omega (arith, long, c.requires.w_nonzero.3)) hung.0 hung.1
     (rw (c.lesser-a.ensures, c.greater-b.ensures) at c.flag_meeting.ensures) hung.2
     (rw c.height-h.ensures at hung.3)

@@ -4,5 +4,5 @@ use mathlib.Core.Path.{ap, sym, ◌∙◌}
 use Rattle.network_impostors.specs.Impostors.{accepted_cells}
 use Rattle.network_impostors.proofs.answers.accepted_cells.Goals as goal
 
-pub returns-in-Accepted : goal.returns-in-Accepted
-returns-in-Accepted c = c.cells.ensures ∙ sym (ap accepted_cells c.in-Accepted.is)
+pub returns-in-Ok : goal.returns-in-Ok
+returns-in-Ok c = c.cells.ensures ∙ sym (ap accepted_cells c.in-Ok.is)

@@ -4,4 +4,4 @@ use Rattle.record_impostors.proofs.writes_first.read_record.Goals as goal
 
 pub returns : goal.returns
 returns c =
-    rw c.clear_first.ensures at c.read_record.ensures
+    rw c.clear_at.ensures at c.read_record.ensures
