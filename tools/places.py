@@ -24,25 +24,28 @@ def bare(text):
     return re.sub(r'//.*', '', text)
 
 
+def closed(code, start, pair):
+    """The place behind the bracket that closes the one that ends before `start`."""
+    depth = 1
+    while depth:
+        depth += {pair[0]: 1, pair[1]: -1}.get(code[start], 0)
+        start += 1
+    return start
+
+
 def functions():
     """(file, name, parameters, answer, clauses, body) of each function."""
     for file, text in CODE.items():
         code = bare(text)
         for m in re.finditer(r'\bfn (\w+)(?:<[^{;]*?>)?\(', code):
-            depth, i = 1, m.end()
-            while depth:
-                depth += {'(': 1, ')': -1}.get(code[i], 0)
-                i += 1
+            i = closed(code, m.end(), '()')
             head = code[m.end():i - 1]
             # The body is the first brace after the clauses: a line that is just one, or one behind the signature.
             start = re.compile(r'^\{$|\) (?:-> [^{;\n]+ )?\{$|^    \{$', re.MULTILINE).search(code, i - 1)
             if not start:
                 continue
             b = code.index('{', start.end() - 1)
-            depth, j = 1, b + 1
-            while depth:
-                depth += {'{': 1, '}': -1}.get(code[j], 0)
-                j += 1
+            j = closed(code, b + 1, '{}')
             between = code[i:b]
             answer = re.match(r'\s*->\s*([^\n{]+)', between)
             yield file, m[1], head, answer[1].strip() if answer else '', between, code[b + 1:j - 1]
@@ -104,10 +107,7 @@ row(2, 'functions whose bodies differ in names, types and numbers alone', (f'{" 
 # 3
 def counting(body):
     for m in re.finditer(r'(?:while ([^{]*)|loop) \{', body):
-        depth, j = 1, m.end()
-        while depth:
-            depth += {'{': 1, '}': -1}.get(body[j], 0)
-            j += 1
+        j = closed(body, m.end(), '{}')
         inner = body[m.end():j - 1]
         counted = re.findall(r'\b(\w+) [+-]= (?:1|w)\b', inner)
         if m[1] and any(re.search(rf'\b{x}\b', m[1]) for x in counted):
