@@ -22,7 +22,7 @@
  *   - ground points to ground_len readable bytes, network and lakes to network_len and lakes_len writable ones;
  *   - what is lent to a call does not overlap.
  *   No pointer needs any alignment. The calls keep no state: threads may make them at the same time on different rooms. They use no heap.
- *   Of stack askvimur_network_by takes at most 176 KB: at most 173.1 KB were measured (177,256 bytes). askvimur_lakes takes at most 256 KB:
+ *   Of stack askvimur_network_by takes at most 176 KB: at most 173.1 KB were measured (177,216 bytes). askvimur_lakes takes at most 256 KB:
  *   at most 240.4 KB were measured (246,136 bytes).
  *
  * The ground record, its sizes and its refusals are those of askvimur.h, which this header includes. An accepted one has 23 to 28,688

@@ -3,6 +3,10 @@
 use Rattle.lake_calls.specs.LakeCall.{lake_lists}
 use Rattle.lists.proofs.Determined.{one_answer, one_outcome}
 use Rattle.lists.specs.Contract.{OneAnswer, OneOutcome}
+use Rattle.lake_calls.proofs.LakesRefusalFromRefusal.from.Kinds as from-refusal-kinds
+use Rattle.lake_calls.proofs.LakesRefusalFromRefusal.from.Reads as from-refusal
+use Rattle.lake_calls.proofs.LakesRefusalFromTooDeep.from.Kinds as from-too-deep-kinds
+use Rattle.lake_calls.proofs.LakesRefusalFromTooDeep.from.Reads as from-too-deep
 use Rattle.lake_calls.proofs.judge_found.Kinds as judge-found-kinds
 use Rattle.lake_calls.proofs.judge_found.Reads as judge-found
 use Rattle.lake_calls.proofs.lakes_number.Kinds as lakes-number-kinds
@@ -26,3 +30,9 @@ pub lakes_of_lists_one : OneOutcome 7 lakes-of-lists-kinds.ps lakes-of-lists-kin
     (λ κs a r e. lake_lists e.1.1.1.1.1.0.now e.1.1.1.1.1.1.0.now e.1.1.1.1.1.1.1.0.now
     e.1.1.1.1.1.1.1.1.0.now)
 lakes_of_lists_one κs a p r r' e e' x y = one_outcome x y
+
+pub from_refusal_one : OneAnswer 0 from-refusal-kinds.ps from-refusal-kinds.r from-refusal.Asked from-refusal.Learnt
+from_refusal_one κs a p r r' e e' x y = one_answer x y
+
+pub from_too_deep_one : OneAnswer 0 from-too-deep-kinds.ps from-too-deep-kinds.r from-too-deep.Asked from-too-deep.Learnt
+from_too_deep_one κs a p r r' e e' x y = one_answer x y

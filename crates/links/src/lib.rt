@@ -21,11 +21,12 @@ fn more_if(k: u8, weight: u8, more: u8) -> u8
 }
 
 // Each cell's own weight.
+// Stays: `fill`, as `copy_from_slice` here has the service's library ask for `memmove` from outside.
 fn own_weights(weights: &[u8], n: usize, links: &mut [u8])
     requires { (n ≤ length weights.now) × (n ≤ length links.old) × (n ≤ 4096) }
     ensures { links.new ≡ filled (at weights.now) n links.old }
 {
-    links[..n].copy_from_slice(&weights[..n]);
+    lists::fill(links, n, |c| weights[c]);
 }
 
 // Adds to each cell whose neighbour has this weight. The neighbour is so many places after the cell, or before it; the other count is 0.

@@ -3,6 +3,12 @@
 use Rattle.lists.proofs.Determined.{one_answer, one_outcome}
 use Rattle.lists.specs.Contract.{OneAnswer, OneOutcome}
 use Rattle.rules.specs.SixLists.{six_lists}
+use Rattle.network_by.proofs.NetworkRefusalFromRefusal.from.Kinds as from-refusal-kinds
+use Rattle.network_by.proofs.NetworkRefusalFromRefusal.from.Reads as from-refusal
+use Rattle.network_by.proofs.NetworkRefusalFromUnknownCount.from.Kinds as from-unknown-count-kinds
+use Rattle.network_by.proofs.NetworkRefusalFromUnknownCount.from.Reads as from-unknown-count
+use Rattle.network_by.proofs.NetworkRefusalFromUnknownManner.from.Kinds as from-unknown-manner-kinds
+use Rattle.network_by.proofs.NetworkRefusalFromUnknownManner.from.Reads as from-unknown-manner
 use Rattle.network_by.proofs.answer_for_c.Kinds as answer-for-c-kinds
 use Rattle.network_by.proofs.answer_for_c.Reads as answer-for-c
 use Rattle.network_by.proofs.asked_for.Kinds as asked-for-kinds
@@ -39,3 +45,12 @@ network_of_record-one κs a p r r' e e' x y = one_outcome x y
 -- the answer as a number
 pub answer_for_c-one : OneAnswer 0 answer-for-c-kinds.ps answer-for-c-kinds.r answer-for-c.Asked answer-for-c.Learnt
 answer_for_c-one κs a p r r' e e' x y = one_answer x y
+
+pub from_refusal_one : OneAnswer 0 from-refusal-kinds.ps from-refusal-kinds.r from-refusal.Asked from-refusal.Learnt
+from_refusal_one κs a p r r' e e' x y = one_answer x y
+
+pub from_unknown_count_one : OneAnswer 0 from-unknown-count-kinds.ps from-unknown-count-kinds.r from-unknown-count.Asked from-unknown-count.Learnt
+from_unknown_count_one κs a p r r' e e' x y = one_answer x y
+
+pub from_unknown_manner_one : OneAnswer 0 from-unknown-manner-kinds.ps from-unknown-manner-kinds.r from-unknown-manner.Asked from-unknown-manner.Learnt
+from_unknown_manner_one κs a p r r' e e' x y = one_answer x y

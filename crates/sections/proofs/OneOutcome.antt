@@ -12,6 +12,26 @@ use Rattle.lists.proofs.Determined.{one_answer}
 use Rattle.lists.specs.Contract.{OneAnswer, OneOutcome}
 use Rattle.std.specs.declared.clone.Clone as clone
 use Rattle.sections.specs.declared.little_endian.LittleEndian as little-endian
+use Rattle.sections.proofs.little_endian.U8LittleEndian.read.Kinds as u8-read-kinds
+use Rattle.sections.proofs.little_endian.U8LittleEndian.read.Reads as u8-read
+use Rattle.sections.proofs.little_endian.U8LittleEndian.write.Kinds as u8-write-kinds
+use Rattle.sections.proofs.little_endian.U8LittleEndian.write.Reads as u8-write
+use Rattle.sections.proofs.little_endian.U16LittleEndian.read.Kinds as u16-read-kinds
+use Rattle.sections.proofs.little_endian.U16LittleEndian.read.Reads as u16-read
+use Rattle.sections.proofs.little_endian.U16LittleEndian.write.Kinds as u16-write-kinds
+use Rattle.sections.proofs.little_endian.U16LittleEndian.write.Reads as u16-write
+use Rattle.sections.proofs.little_endian.U32LittleEndian.read.Kinds as u32-read-kinds
+use Rattle.sections.proofs.little_endian.U32LittleEndian.read.Reads as u32-read
+use Rattle.sections.proofs.little_endian.U32LittleEndian.write.Kinds as u32-write-kinds
+use Rattle.sections.proofs.little_endian.U32LittleEndian.write.Reads as u32-write
+use Rattle.sections.proofs.little_endian.U64LittleEndian.read.Kinds as u64-read-kinds
+use Rattle.sections.proofs.little_endian.U64LittleEndian.read.Reads as u64-read
+use Rattle.sections.proofs.little_endian.U64LittleEndian.write.Kinds as u64-write-kinds
+use Rattle.sections.proofs.little_endian.U64LittleEndian.write.Reads as u64-write
+use Rattle.sections.proofs.little_endian.I32LittleEndian.read.Kinds as i32-read-kinds
+use Rattle.sections.proofs.little_endian.I32LittleEndian.read.Reads as i32-read
+use Rattle.sections.proofs.little_endian.I32LittleEndian.write.Kinds as i32-write-kinds
+use Rattle.sections.proofs.little_endian.I32LittleEndian.write.Reads as i32-write
 use Rattle.sections.proofs.read.Kinds as read-kinds
 use Rattle.sections.proofs.read.Reads as read
 use Rattle.sections.proofs.write.Kinds as write-kinds
@@ -56,3 +76,33 @@ write_section_one T l c numbers d clones e κs a p r r' x x' y y' = (refl, one_a
 pub read_section_one : OneOutcomeAtEach 3 read-section-kinds.ps read-section-kinds.r read-section.Asked read-section.Learnt
     {B = λ T. List T.Denot} (λ T l c κs a r e. e.1.1.1.0.now)
 read_section_one T l c numbers d clones e κs a p r r' x x' y y' = (refl, one_answer y y')
+
+pub u8_read_one : OneAnswer 1 u8-read-kinds.ps u8-read-kinds.r u8-read.Asked u8-read.Learnt
+u8_read_one κs a p r r' e e' x y = one_answer x y
+
+pub u8_write_one : OneOutcome 1 u8-write-kinds.ps u8-write-kinds.r u8-write.Asked u8-write.Learnt (λ κs a r e. e.1.0.now)
+u8_write_one κs a p r r' e e' x y = (refl, one_answer x y)
+
+pub u16_read_one : OneAnswer 1 u16-read-kinds.ps u16-read-kinds.r u16-read.Asked u16-read.Learnt
+u16_read_one κs a p r r' e e' x y = one_answer x y
+
+pub u16_write_one : OneOutcome 1 u16-write-kinds.ps u16-write-kinds.r u16-write.Asked u16-write.Learnt (λ κs a r e. e.1.0.now)
+u16_write_one κs a p r r' e e' x y = (refl, one_answer x y)
+
+pub u32_read_one : OneAnswer 1 u32-read-kinds.ps u32-read-kinds.r u32-read.Asked u32-read.Learnt
+u32_read_one κs a p r r' e e' x y = one_answer x y
+
+pub u32_write_one : OneOutcome 1 u32-write-kinds.ps u32-write-kinds.r u32-write.Asked u32-write.Learnt (λ κs a r e. e.1.0.now)
+u32_write_one κs a p r r' e e' x y = (refl, one_answer x y)
+
+pub u64_read_one : OneAnswer 1 u64-read-kinds.ps u64-read-kinds.r u64-read.Asked u64-read.Learnt
+u64_read_one κs a p r r' e e' x y = one_answer x y
+
+pub u64_write_one : OneOutcome 1 u64-write-kinds.ps u64-write-kinds.r u64-write.Asked u64-write.Learnt (λ κs a r e. e.1.0.now)
+u64_write_one κs a p r r' e e' x y = (refl, one_answer x y)
+
+pub i32_read_one : OneAnswer 1 i32-read-kinds.ps i32-read-kinds.r i32-read.Asked i32-read.Learnt
+i32_read_one κs a p r r' e e' x y = one_answer x y
+
+pub i32_write_one : OneOutcome 1 i32-write-kinds.ps i32-write-kinds.r i32-write.Asked i32-write.Learnt (λ κs a r e. e.1.0.now)
+i32_write_one κs a p r r' e e' x y = (refl, one_answer x y)

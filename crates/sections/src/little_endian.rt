@@ -1,5 +1,6 @@
 // The types whose numbers stand in a record, and how: each says how many bytes a number has, which bytes they are, and which number
-// the bytes from an index on say. A law says that a number has its width; that what was written is read is in proofs/Numbers.antt.
+// the bytes from an index on say. A law says that a number has its width. That what was written is read is in proofs/Numbers.antt, for numbers of
+// 16, 32 and 64 bits without a sign; for heights it is in proofs/HeightSections.antt of `heights`.
 
 ghost use Rattle.std.specs.Prelude.{[], List, ◌≡◌, ◌∷◌, ℕ, ◌*◌, ◌+◌, ◌≤◌, get_or, length};
 ghost use Rattle.std.specs.Int.{cast_signed, cast_unsigned, w32};

@@ -257,11 +257,12 @@ fn push_outlets(marks: &[u8], links: &[u8], stack: &mut [u32]) -> Place
 }
 
 // Each cell's height in the place of its level: what an outlet's own entry finds at its receiver.
+// Stays: `fill`, as `copy_from_slice` here has the service's library ask for `memmove` from outside.
 fn note_heights(heights: &[u32], levels: &mut [u32])
     requires { (length heights.now ≤ length levels.old) × (length heights.now ≤ 4096) }
     ensures { levels.new ≡ filled (at heights.now) (length heights.now) levels.old }
 {
-    levels[..heights.len()].copy_from_slice(heights);
+    lists::fill(levels, heights.len(), |c| heights[c]);
 }
 
 // Receivers, order, levels and wetness from the link masks. The stack is work space: what is past the cells' places stays.
