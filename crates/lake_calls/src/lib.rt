@@ -2,7 +2,7 @@
 // The lakes are found as rows in work space. The lent lists are written only after 10 and 3 are judged: specs/LakeCall.antt.
 #![tactic(auto)]
 
-ghost use Rattle.std.specs.Prelude.{List, ◌≡◌, ℕ, ◌*◌, ◌<◌, ◌≤◌, length};
+ghost use Rattle.std.specs.Prelude.{List, ◌≡◌, ℕ, ◌<◌, ◌≤◌, length};
 ghost use Rattle.ground.specs.Good.{Good};
 ghost use Rattle.ground.specs.Record.{ground_of_lists};
 ghost use Rattle.lake_calls.specs.LakeCall.{judge_found, lake_lists, lakes_left, lakes_number, lakes_onto, LakesOutcome, lakes_place};

@@ -2,7 +2,7 @@
 // These are leaves: callers show that there is room.
 #![tactic(auto)]
 
-ghost use Rattle.std.specs.Prelude.{◌*◌, ◌+◌, ◌<◌, ◌≤◌, length};
+ghost use Rattle.std.specs.Prelude.{◌<◌, ◌≤◌, length};
 ghost use Rattle.lake_rows.specs.Reading.{read_lake, read_lakes};
 ghost use Rattle.lake_rules.specs.Fits.{LakesFit};
 ghost use Rattle.lake_text.specs.LakeText.{lake_line, lakes_line, lakes_text, most_lakes_text};

@@ -2,7 +2,7 @@
 // the bytes from an index on say. A law says that a number has its width. That what was written is read is in proofs/Numbers.antt, for numbers of
 // 16, 32 and 64 bits without a sign; for heights it is in proofs/HeightSections.antt of `heights`.
 
-ghost use Rattle.std.specs.Prelude.{[], List, ◌≡◌, ◌∷◌, ℕ, ◌*◌, ◌+◌, ◌≤◌, get_or, length};
+ghost use Rattle.std.specs.Prelude.{[], List, ◌≡◌, ◌∷◌, ℕ, ◌+◌, ◌≤◌, length};
 ghost use Rattle.std.specs.Int.{cast_signed, cast_unsigned, w32};
 ghost use Rattle.std.proofs.Common.{rules};
 ghost use Rattle.lists.specs.Lists.{at, stored};

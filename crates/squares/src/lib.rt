@@ -2,7 +2,7 @@
 // square of four cells, which are never chosen.
 #![tactic(auto)]
 
-ghost use Rattle.std.specs.Prelude.{cond, List, ◌++◌, ◌≡◌, max, ℕ, ◌%◌, ◌*◌, ◌+◌, ◌-◌, ◌/◌, ◌<◌, ◌≤◌, length};
+ghost use Rattle.std.specs.Prelude.{cond, List, ◌++◌, ◌≡◌, max, ℕ, ◌%◌, ◌*◌, ◌+◌, ◌-◌, ◌<◌, ◌≤◌, length};
 ghost use Rattle.grid.specs.Window.{Grid};
 ghost use Rattle.lists.specs.Lists.{at, filled};
 ghost use Rattle.lists.specs.Stores.{Packs, Puts};
