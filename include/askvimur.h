@@ -1,7 +1,7 @@
 /* Askvimur: where water runs on a tile. One call, from a ground record to its network record.
  *
  * Compiles as C99 and later and as C++; the C++ wrapper at its end is there from C++20 on. Link with libaskvimur.a, which
- * `rt lib` in crates/askvimur writes to out/; it needs no other library.
+ * `rt lib` in crates/askvimur writes to out/; it needs no other library, and of what others define only memcpy and memset.
  *
  * WHAT IS PROMISED, AND BY WHOM
  *   Proved    For every ground record and every length of the network record: the answer, and every byte of the network record

@@ -1,7 +1,8 @@
 /* Askvimur for the service and for designers' tools: what document 02 adds to the console's call (askvimur.h).
  *
  * Compiles as C99 and later and as C++; the C++ wrapper at its end is there from C++20 on. Link with libaskvimur_service.a, which
- * `rt lib` in crates/askvimur_service writes to out/; it needs no other library. A program may link libaskvimur.a too, or either alone.
+ * `rt lib` in crates/askvimur_service writes to out/; it needs no other library, and of what others define only memcpy and memset. A program
+ * may link libaskvimur.a too, or either alone.
  *
  *   askvimur_network_by   the network of a ground record, over 4 or 8 neighbours (W-203), carved or as a sheet (W-205)
  *   askvimur_lakes        its lakes (W-202), over 4
